@@ -1,0 +1,10 @@
+pub mod AtPlace
+pub mod Clashes
+pub mod Firsts
+pub mod Lines
+pub mod Numbers
+pub mod Pieces
+pub mod SecondTable
+pub mod ThirdTable
+pub mod Verdicts
+pub mod Walks

@@ -1,0 +1,7 @@
+pub mod Rows
+pub mod Setup
+pub mod Text
+pub mod Layout
+pub mod Verdict
+pub mod Reading
+pub mod Walk
