@@ -56,8 +56,8 @@ module _ (listed : ℕ) (rows : List Row) (none : first-clash listed rows ≡ No
       let i = before .first in
       let j = before .second in
       let sharing : shares (getD rows j r) (getD (take j rows) i r) ≡ true =
-          shares-true (getD rows j r) (getD (take j rows) i r)
-          (subst₂ Shares (sym (before .at-second r)) (sym (getD-take j rows i r (before .order) ∙ before .at-first r)) (other-way r s shared))
+      shares-true (getD rows j r) (getD (take j rows) i r)
+      (subst₂ Shares (sym (before .at-second r)) (sym (getD-take j rows i r (before .order) ∙ before .at-first r)) (other-way r s shared))
       in
       let long : length (take j rows) ≡ j = length-take-le j rows (omega (arith, before .within)) in
       both-ways _

@@ -24,8 +24,8 @@ module _ {X : Type 0} (f : ℕ → Option X) where
   from k (suc n) at x low high before is =
       ⊎-elim
       (λ later.
-          first-step k n (before k (omega arith) later)
-          ∙ from (k + 1) n at x (omega arith) (omega arith) (λ j jl jh. before j (omega arith) jh) is)
+      first-step k n (before k (omega arith) later)
+      ∙ from (k + 1) n at x (omega arith) (omega arith) (λ j jl jh. before j (omega arith) jh) is)
       (λ here. first-here k n x (let same : at ≡ k = omega arith in subst (λ j. f j ≡ Some x) same is))
       (cases-lt k at)
 

@@ -1,4 +1,5 @@
 pub mod AtPlace
+pub mod Bounds
 pub mod Clashes
 pub mod Firsts
 pub mod Lines

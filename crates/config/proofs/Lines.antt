@@ -105,6 +105,7 @@ module _ (n : ℕ) (rules : List Rule) (line : Bytes) (k : ℕ) (f : Fields) (r 
     where
       one-more : suc k ≡ k + 1
       one-more = sym (add-one k)
+
       behind : rs ≡ drop (k + 1) rules
       behind = sym (sym (drop-drop 1 k rules) ∙ ap (drop 1) rule)
 

@@ -46,12 +46,12 @@ unfolding number is-number
 right-number f some short first digits =
     cond-true _ _ _
     (and-from _ _
-      (and-from _ _ (lt-ltb 0 (length f) some) (le-leb (length f) 10 short))
-      (and-from _ _ digits
-        (⊎-elim
-          (λ (one : length f ≡ 1). or-left _ _ (eq-eqb (length f) 1 one))
-          (λ more. or-right _ _ (not-from-false _ (ne-eqb (getD f 0 0) 48 (first (omega arith)))))
-          (cases-eq (length f) 1))))
+    (and-from _ _ (lt-ltb 0 (length f) some) (le-leb (length f) 10 short))
+    (and-from _ _ digits
+    (⊎-elim
+    (λ (one : length f ≡ 1). or-left _ _ (eq-eqb (length f) 1 one))
+    (λ more. or-right _ _ (not-from-false _ (ne-eqb (getD f 0 0) 48 (first (omega arith)))))
+    (cases-eq (length f) 1))))
 
 -- the first i bytes are digits, and write n
 pub record Sofar (f : Bytes) (i n : ℕ) : Type 0 where
@@ -76,7 +76,7 @@ module _ (f : Bytes) (i n : ℕ) (within : i < length f) (sofar : Sofar f i n) w
   pub sofar-stops : (getD f i 0 < 48) ⊎ (57 < getD f i 0) → all-digits f ≡ false
   sofar-stops out =
       let bad : is-digit (getD f i 0) ≡ false =
-          ⊎-elim (λ low. and-left _ _ (lt-leb 48 _ low)) (λ high. and-right _ _ (lt-leb _ 57 high)) out
+      ⊎-elim (λ low. and-left _ _ (lt-leb 48 _ low)) (λ high. and-right _ _ (lt-leb _ 57 high)) out
       in
       sofar .digits ∙ at-drop-more all-digits f i 0 within ∙ rw bad
 
@@ -105,7 +105,7 @@ module _ (low high n : ℕ) (f : Bytes) (is : number f ≡ Some n) where
   unfolding within
   out-of-range out =
       let bad : (leb low n && leb n high) ≡ false =
-          ⊎-elim (λ less. and-left _ _ (lt-leb low n less)) (λ more. and-right _ _ (lt-leb n high more)) out
+      ⊎-elim (λ less. and-left _ _ (lt-leb low n less)) (λ more. and-right _ _ (lt-leb n high more)) out
       in
       rw (is, bad) refl
 
@@ -115,11 +115,11 @@ range-known low high f right = by (number f) refl
   where
     never : {e : TextRefusal} → within low high f ≡ Some e → ⊥
     never wrong = let z : _≡_ {A = ℕ} 0 1 = cc in omega arith
+
     by : (o : Option ℕ) → number f ≡ o → Between low high (written f)
     by None is = absurd (never (no-number low high f is))
     by (Some n) is =
-        let value = is-written low high n f is in
-        (
+        let value = is-written low high n f is in (
           ⊎-elim (λ less. absurd (never (out-of-range low high n f is (inl less)))) (λ ok. omega arith) (cases-lt n low),
           ⊎-elim (λ more. absurd (never (out-of-range low high n f is (inr more)))) (λ ok. omega arith) (cases-lt high n),
         )

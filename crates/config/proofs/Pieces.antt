@@ -49,9 +49,9 @@ lines-step bs n stops some =
     ⊎-elim
     (λ lt. rw add-one (piece 10 [] bs n lt (stops .free) (stops .at lt)))
     (λ ge.
-        let e : n ≡ length bs = omega (arith, stops .bound) in
-        let past : length bs ≤ n + 1 = omega arith in
-        rw (take-all n bs ge, drop-all (n + 1) bs past) (whole 10 [] (λ b. refl) bs some (rw e at (stops .free))))
+    let e : n ≡ length bs = omega (arith, stops .bound) in
+    let past : length bs ≤ n + 1 = omega arith in
+    rw (take-all n bs ge, drop-all (n + 1) bs past) (whole 10 [] (λ b. refl) bs some (rw e at (stops .free))))
     (cases-lt n (length bs))
 
 pub lines-none : (bs : Bytes) → length bs ≡ 0 → lines bs ≡ []

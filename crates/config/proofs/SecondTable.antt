@@ -154,10 +154,10 @@ parent-line n i x line on right rate =
       some =
           ⊎-elim
           (λ (none : length line ≡ 0).
-              ⊎-elim
-              (λ first. ⊎-elim (λ other. absurd (eqb-false i 0 other (omega (arith, ltb-false 0 i first)))) (λ other. absurd (eqb-false (length line) 0 other none)) (and-cases (eqb i 0) (eqb (length line) 0) (table .1)))
-              (λ some. absurd (eqb-false (length line) 0 some none))
-              (and-cases (ltb 0 i) (eqb (length line) 0) on))
+          ⊎-elim
+          (λ first. ⊎-elim (λ other. absurd (eqb-false i 0 other (omega (arith, ltb-false 0 i first)))) (λ other. absurd (eqb-false (length line) 0 other none)) (and-cases (eqb i 0) (eqb (length line) 0) (table .1)))
+          (λ some. absurd (eqb-false (length line) 0 some none))
+          (and-cases (ltb 0 i) (eqb (length line) 0) on))
           (λ some. omega arith)
           (cases-eq (length line) 0);
       few = table .0;
@@ -171,11 +171,13 @@ parent-read n i x None answer = ⊎-elim at-end at-first (cases-bool (ltb 0 i))
   where
     told : (wrong-at n (parent-or-gap i None) None ≡ None) × (Some x ≡ rate-or-none i None)
     told = unless-ok _ _ _ answer
+
     at-end : ltb 0 i ≡ true → Rate-read i x None
     at-end end =
         let none : Some x ≡ None = told .1 ∙ cond-true _ _ _ end in
         let z : _≡_ {A = ℕ} 0 1 = cc in
         absurd (omega arith)
+
     at-first : ltb 0 i ≡ false → Rate-read i x None
     at-first first =
         let right : end-wrong n (parent i) ≡ None = ap (end-wrong n) (sym (cond-false (ltb 0 i) gap (parent i) first)) ∙ told .0 in
@@ -185,11 +187,13 @@ parent-read n i x (Some line) answer = ⊎-elim at-end on (cases-bool (ltb 0 i &
   where
     told : (wrong-at n (parent-or-gap i (Some line)) (Some line) ≡ None) × (Some x ≡ rate-or-none i (Some line))
     told = unless-ok _ _ _ answer
+
     at-end : (ltb 0 i && eqb (length line) 0) ≡ true → Rate-read i x (Some line)
     at-end end =
         let none : Some x ≡ None = told .1 ∙ cond-true _ _ _ end in
         let z : _≡_ {A = ℕ} 0 1 = cc in
         absurd (omega arith)
+
     on : (ltb 0 i && eqb (length line) 0) ≡ false → Rate-read i x (Some line)
     on more =
         let rate : Some x ≡ Some (rate-of line) = told .1 ∙ cond-false _ _ _ more in
@@ -204,11 +208,13 @@ gap-read n i o answer = ⊎-elim (λ end. (end, there o refl end)) (λ on. absur
   where
     told : (wrong-at n (parent-or-gap i o) o ≡ None) × (_≡_ {A = Option ℕ} None (rate-or-none i o))
     told = unless-ok _ _ _ answer
+
     never : parents-end i o ≡ false → ⊥
     never on =
         let some = told .1 ∙ cond-false (parents-end i o) _ _ on in
         let z : _≡_ {A = ℕ} 0 1 = cc in
         omega arith
+
     there : (p : Option Bytes) → o ≡ p → parents-end i o ≡ true → (b : Bytes) × (o ≡ Some b)
     there None is end =
         let right : end-wrong n gap ≡ None = sym (λ k. wrong-at n (cond (end k) gap (parent i)) (is k)) ∙ told .0 in
@@ -272,8 +278,7 @@ module _ (ls : List Bytes) (r s : Reader) (rates : List ℕ) (read : Read-parent
       let there = got .1 in
       let on = goes-on ls r _ (read .at) l s next _ place-is (unless-ok _ _ _ ok .0) (there .0) (there .1) in
       let all : parents ls ≡ length rates = ended-there ls (length rates) (read .upto) (ap (parents-end (length rates)) (sym (next .bytes ∙ here-is ls r _ (read .at) l s next)) ∙ got .0) in
-      let first = ended (length rates) (bytes-of l) (got .0) .0 in
-      (
+      let first = ended (length rates) (bytes-of l) (got .0) .0 in (
         subst (At ls s) (omega arith) on,
         (read .are ∙ ap (λ n. map rate-of (take n (drop 4 ls))) (sym all), ((first, read .few), read .range)),
       )

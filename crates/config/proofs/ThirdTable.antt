@@ -74,7 +74,7 @@ nth-rows : (ls : List Bytes) (j : ℕ) (l : Bytes) → nth ls (6 + parents ls + 
 unfolding map-rows
 nth-rows ls j l is = nth-map row-of (drop (6 + parents ls) ls) j ∙ ap (mapped row-of) (nth-drop (6 + parents ls) ls j ∙ is)
 
-length-rows : (ls : List Bytes) → length (map-rows ls) ≡ length ls - (6 + parents ls)
+pub length-rows : (ls : List Bytes) → length (map-rows ls) ≡ length ls - (6 + parents ls)
 unfolding map-rows
 length-rows ls = length-map (drop (6 + parents ls) ls) row-of ∙ length-drop (6 + parents ls) ls
 
@@ -128,17 +128,16 @@ row-read n i m row (Some line) answer =
 -- what the end of the text answered
 pub end-read : (n i m : ℕ) (o : Option Bytes) → Ok None ≡ unless (wrong-at n (map-row i m) o) (mapped row-of o) → (o ≡ None) × (0 < i)
 unfolding end-wrong
-end-read n i m None answer =
-    (
-      refl,
-      ⊎-elim
+end-read n i m None answer = (
+  refl,
+  ⊎-elim
       (λ (first : i ≡ 0).
-          let wrong-end : _≡_ {A = Option TextFault} (Some (fault Range n 0)) None = sym (cond-true _ _ _ (eq-eqb i 0 first)) ∙ unless-ok _ _ _ answer .0 in
-          let z : _≡_ {A = ℕ} 0 1 = cc in
-          absurd (omega arith))
+      let wrong-end : _≡_ {A = Option TextFault} (Some (fault Range n 0)) None = sym (cond-true _ _ _ (eq-eqb i 0 first)) ∙ unless-ok _ _ _ answer .0 in
+      let z : _≡_ {A = ℕ} 0 1 = cc in
+      absurd (omega arith))
       (λ later. omega arith)
       (cases-eq i 0),
-    )
+)
 end-read n i m (Some line) answer =
     let some : None ≡ Some (row-of line) = unless-ok _ _ _ answer .1 in
     let z : _≡_ {A = ℕ} 0 1 = cc in

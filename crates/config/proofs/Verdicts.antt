@@ -94,8 +94,7 @@ settings-range [] long right = absurd (omega arith)
 settings-range (a ∷ []) long right = absurd (omega arith)
 settings-range (a ∷ line ∷ ls) long right =
     let table = table-right 2 1 0 line _ (right 1 (omega arith)) in
-    let kept = values-kept 2 settings-rules line (table .2) in
-    (
+    let kept = values-kept 2 settings-rules line (table .2) in (
       range-known _ _ (field-at line 0) (kept 0 _ refl),
       range-known _ _ (field-at line 1) (kept 1 _ refl),
       range-known _ _ (field-at line 2) (kept 2 _ refl),

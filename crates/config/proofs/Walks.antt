@@ -73,8 +73,7 @@ module _ (ls : List Bytes) (r : Reader) (k : ℕ) (at : At ls r k) (l : Line) (s
   ends p is ok none =
       let last : nth ls k ≡ None = sym (next .bytes ∙ here-is) ∙ none in
       let all : k ≡ length ls = omega (arith, at .inside, nth-past-end ls k last) in
-      let stays : _≡_ {A = ℕ} (cond (isSome (next-line r)) 1 0) 0 = ap (λ o. cond (isSome o) 1 0) (here-is ∙ last) in
-      (
+      let stays : _≡_ {A = ℕ} (cond (isSome (next-line r)) 1 0) 0 = ap (λ o. cond (isSome o) 1 0) (here-is ∙ last) in (
         record {
           text = ap lines (next .same) ∙ at .text;
           line = omega (arith, next .behind, stays, at .line, all);

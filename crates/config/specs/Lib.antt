@@ -5,3 +5,4 @@ pub mod Layout
 pub mod Verdict
 pub mod Reading
 pub mod Walk
+pub mod Told

@@ -23,7 +23,11 @@ pub(crate) fn find(bytes: &[u8], separator: u8) -> usize
 pub(crate) fn after(bytes: &[u8], end: usize) -> &[u8]
     ensures { λ r. ⌜ now r ≡ drop (end + 1) (now (bytes .entry)) ⌝ }
 {
-    if end < bytes.len() { &bytes[end + 1..] } else { &bytes[bytes.len()..] }
+    if end < bytes.len() {
+        &bytes[end + 1..]
+    } else {
+        &bytes[bytes.len()..]
+    }
 }
 
 // How many fields a line has.

@@ -18,7 +18,12 @@ pub(crate) fn read_settings(line: u32, bytes: &[u8]) -> Result<Settings, TextFau
     let backlog = fields.number(1, 1_024)? as u32;
     let copies = fields.number(1, 16)? as u32;
     let tsid = fields.number(0, 65_535)? as u16;
-    Ok(Settings { ticks, backlog, copies, tsid })
+    Ok(Settings {
+        ticks,
+        backlog,
+        copies,
+        tsid,
+    })
 }
 
 // The rate that line `line` writes, which is that of parent `parent`.
@@ -42,7 +47,13 @@ pub(crate) fn read_row(line: u32, bytes: &[u8]) -> Result<Row, TextFault>
     let kind = fields.kind()?;
     let (least, most) = services(kind);
     let service = fields.number(least, most)? as u16;
-    Ok(Row { parent, pid, out, kind, service })
+    Ok(Row {
+        parent,
+        pid,
+        out,
+        kind,
+        service,
+    })
 }
 
 // The least and the greatest program number that a row of a kind may have.

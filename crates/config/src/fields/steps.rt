@@ -40,7 +40,11 @@ impl<'a> Fields<'a> {
             return &[];
         };
         let end = find(bytes, b' ');
-        self.rest = if end < bytes.len() { Some(after(bytes, end)) } else { None };
+        self.rest = if end < bytes.len() {
+            Some(after(bytes, end))
+        } else {
+            None
+        };
         &bytes[0..end]
     }
 
@@ -53,7 +57,11 @@ impl<'a> Fields<'a> {
     {
         match number_within(self.next(), low, high) {
             Ok(n) => Ok(n),
-            Err(refusal) => Err(TextFault { refusal, line: self.line, field: self.field }),
+            Err(refusal) => Err(TextFault {
+                refusal,
+                line: self.line,
+                field: self.field,
+            }),
         }
     }
 
@@ -65,7 +73,11 @@ impl<'a> Fields<'a> {
     {
         match read_kind(self.next()) {
             Ok(kind) => Ok(kind),
-            Err(refusal) => Err(TextFault { refusal, line: self.line, field: self.field }),
+            Err(refusal) => Err(TextFault {
+                refusal,
+                line: self.line,
+                field: self.field,
+            }),
         }
     }
 }
@@ -75,7 +87,15 @@ pub(crate) fn fields_of(line: u32, bytes: &[u8], count: usize) -> Result<Fields<
     ensures { λ r. ⌜ Opened line (now (bytes .entry)) count r ⌝ }
 {
     if count_fields(bytes) != count {
-        return Err(TextFault { refusal: TextRefusal::Form, line, field: 0 });
+        return Err(TextFault {
+            refusal: TextRefusal::Form,
+            line,
+            field: 0,
+        });
     }
-    Ok(Fields { rest: Some(bytes), line, field: 0 })
+    Ok(Fields {
+        rest: Some(bytes),
+        line,
+        field: 0,
+    })
 }

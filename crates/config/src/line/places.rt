@@ -27,7 +27,11 @@ impl<'a> Line<'a> {
     fn fault(self, refusal: TextRefusal) -> TextFault
         ensures { λ r. ⌜ r ≡ record { refusal = refusal; line = self .entry .number; field = 0 } ⌝ }
     {
-        TextFault { refusal, line: self.number, field: 0 }
+        TextFault {
+            refusal,
+            line: self.number,
+            field: 0,
+        }
     }
 
     // The names of a table's columns.
@@ -72,7 +76,11 @@ impl<'a> Line<'a> {
         ensures { λ r. ⌜ r ≡ unless (wrong (self .entry) (parent-or-gap i (bytes-of (self .entry)))) (rate-or-none i (bytes-of (self .entry))) ⌝ }
     {
         let Some(line) = self.bytes else {
-            return Err(self.fault(if i == 0 { TextRefusal::Range } else { TextRefusal::Names }));
+            return Err(self.fault(if i == 0 {
+                TextRefusal::Range
+            } else {
+                TextRefusal::Names
+            }));
         };
         if i > 0 && line.is_empty() {
             return Ok(None);
@@ -86,7 +94,11 @@ impl<'a> Line<'a> {
         ensures { λ r. ⌜ r ≡ unless (wrong (self .entry) (map-row i pmts)) (mapped row-of (bytes-of (self .entry))) ⌝ }
     {
         let Some(line) = self.bytes else {
-            return if i == 0 { Err(self.fault(TextRefusal::Range)) } else { Ok(None) };
+            return if i == 0 {
+                Err(self.fault(TextRefusal::Range))
+            } else {
+                Ok(None)
+            };
         };
         self.in_table(line, 64, i)?;
         let row = read_row(self.number, line)?;

@@ -32,7 +32,11 @@ pub(crate) fn check_length(text: &[u8]) -> Result<(), TextFault>
     ensures { λ r. ⌜ r ≡ unless (too-long (now (text .entry))) tt ⌝ }
 {
     if text.len() > 16_384 {
-        return Err(TextFault { refusal: TextRefusal::Names, line: 0, field: 0 });
+        return Err(TextFault {
+            refusal: TextRefusal::Names,
+            line: 0,
+            field: 0,
+        });
     }
     Ok(())
 }
@@ -43,5 +47,9 @@ pub(crate) fn begin(text: &[u8]) -> Reader<'_>
     ensures text { λ r. ⌜ now (r .text) ≡ now (text .entry) ⌝ }
     ensures line { λ r. ⌜ r .line ≡ 0 ⌝ }
 {
-    Reader { text, rest: text, line: 0 }
+    Reader {
+        text,
+        rest: text,
+        line: 0,
+    }
 }

@@ -17,8 +17,20 @@ impl Config {
         requires { ⌜ None-shares (vec-items rows) ⌝ }
         ensures { λ r. ⌜ setup r ≡ setup-from settings (vec-items rates) (vec-items rows) ⌝ }
     {
-        let Settings { ticks, backlog, copies, tsid } = settings;
-        Config { ticks, backlog, copies, tsid, rates, rows }
+        let Settings {
+            ticks,
+            backlog,
+            copies,
+            tsid,
+        } = settings;
+        Config {
+            ticks,
+            backlog,
+            copies,
+            tsid,
+            rates,
+            rows,
+        }
     }
 
     // The frame length in 27 MHz ticks.

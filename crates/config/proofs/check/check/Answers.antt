@@ -78,8 +78,7 @@ of-requires c κs =
     let head = c .in-Continue-settings .ensures tt in
     let rows = c .in-Continue-rows .ensures tt .1 in
     let items = vec-items (c .in-Continue-rows .rows) in
-    let none = clash-is (need.at·of-requires c .After-find-clash) ∙ c .in-rest .is in
-    (
+    let none = clash-is (need.at·of-requires c .After-find-clash) ∙ c .in-rest .is in (
       subst (λ (s : Settings). Settings-in-range (s .ticks) (s .backlog) (s .copies) (s .tsid)) (sym (head .1)) (settings-range _ (head .0 .inside) (head .0 .right)),
       c .in-Continue-rates .ensures tt .1 .1,
       rows .2,

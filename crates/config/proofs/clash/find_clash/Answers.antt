@@ -29,9 +29,9 @@ returns-then-from-listed c =
     let i = c .loop-i .i in
     record {
       value = sym (c .loop-i .inv ∙ elim (c .then-from-listed .came) [
-      then-from-listed·by·then-from-listed w ↦ unlisted-here (c .args .listed) rows i blank (c .loop-i-test .taken) (subst (λ n. c .args .listed ≤ n) (c .from .ensures) (w .if-from-listed .taken))
-      | then-from-listed·by·else-from-listed·then-shares-any w ↦ sharing-here (c .args .listed) rows i blank (c .loop-i-test .taken) (upto rows i (getD rows i blank) _ (w .if-shares-any .ensures tt))
-    ]);
+        | then-from-listed·by·then-from-listed w ↦ unlisted-here (c .args .listed) rows i blank (c .loop-i-test .taken) (subst (λ n. c .args .listed ≤ n) (c .from .ensures) (w .if-from-listed .taken))
+        | then-from-listed·by·else-from-listed·then-shares-any w ↦ sharing-here (c .args .listed) rows i blank (c .loop-i-test .taken) (upto rows i (getD rows i blank) _ (w .if-shares-any .ensures tt))
+      ]);
       within = c .loop-i-test .taken;
     }
 

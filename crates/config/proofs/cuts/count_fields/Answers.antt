@@ -12,7 +12,7 @@ loop-b-again c =
     let line = c .args .line .now in
     let i = c .loop-b .b-index in
     elim (c .if-b-eq32 .came) [
-      then-b-eq32 w ↦ subst (Spaces line (i + 1)) (sym (w .spaces-is)) (space-more line i _ (c .loop-b-test .taken) (c .loop-b .inv) (w .if-b-eq32 .taken))
+      | then-b-eq32 w ↦ subst (Spaces line (i + 1)) (sym (w .spaces-is)) (space-more line i _ (c .loop-b-test .taken) (c .loop-b .inv) (w .if-b-eq32 .taken))
       | else-b-eq32 w ↦ subst (Spaces line (i + 1)) (sym (w .spaces-is)) (other-more line i _ (c .loop-b-test .taken) (c .loop-b .inv) (w .if-b-eq32 .left))
     ]
 

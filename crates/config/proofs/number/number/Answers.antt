@@ -19,10 +19,10 @@ loop-b-holds c = sofar-none _
 pub returns-then-b-lt48 : need.returns-then-b-lt48
 returns-then-b-lt48 c =
     sym (no-digit (c .args .field .now) (sofar-stops (c .args .field .now) (c .loop-b .b-index) (c .loop-b .n) (c .loop-b-test .taken) (c .loop-b .inv)
-      (elim (c .then-b-lt48 .came) [
-        then-b-lt48·by·then-b-lt48 w ↦ inl (w .if-b-lt48 .taken)
-        | then-b-lt48·by·else-b-lt48·then-b-gt57 w ↦ inr (w .if-b-gt57 .taken)
-      ])))
+    (elim (c .then-b-lt48 .came) [
+      | then-b-lt48·by·then-b-lt48 w ↦ inl (w .if-b-lt48 .taken)
+      | then-b-lt48·by·else-b-lt48·then-b-gt57 w ↦ inr (w .if-b-gt57 .taken)
+    ])))
 
 pub loop-b-again : need.loop-b-again
 loop-b-again c =
@@ -34,8 +34,8 @@ returns c =
     let done = sofar-all (c .args .field .now) (c .loop-b .b-index) (c .loop-b .n) (c .loop-b-test .left) (c .loop-b .inv) in
     ap Some (sym (done .1))
     ∙ sym (right-number (c .args .field .now) (omega (arith, c .if-digits-eq0 .left)) (c .if-digits-gt10 .left)
-      (elim (c .else-digits-gt1 .came) [
-        else-digits-gt1·by·then-digits-gt1·else-field-eq48 w ↦ λ _ first. w .if-field-eq48 .left first
-        | else-digits-gt1·by·else-digits-gt1 w ↦ λ more _. omega (arith, w .if-digits-gt1 .left)
-      ])
-      (done .0))
+    (elim (c .else-digits-gt1 .came) [
+      | else-digits-gt1·by·then-digits-gt1·else-field-eq48 w ↦ λ _ first. w .if-field-eq48 .left first
+      | else-digits-gt1·by·else-digits-gt1 w ↦ λ more _. omega (arith, w .if-digits-gt1 .left)
+    ])
+    (done .0))

@@ -24,7 +24,7 @@ returns-in-Break-row c =
 counted : (c : In-Continue-push) → c .if-eq .pmts ≡ c .loop-rows .pmts + cond (is-pmt (c .in-Some .row .kind)) 1 0
 counted c =
     elim (c .if-eq .came) [
-      then-eq w ↦ w .pmts-is ∙ ap (λ k. c .loop-rows .pmts + cond (is-pmt k) 1 0) (sym (w .if-eq .ensures tt))
+      | then-eq w ↦ w .pmts-is ∙ ap (λ k. c .loop-rows .pmts + cond (is-pmt k) 1 0) (sym (w .if-eq .ensures tt))
       | else-eq w ↦ w .pmts-is ∙ no-pmt (c .in-Some .row .kind) (c .loop-rows .pmts) (w .if-eq .ensures tt)
     ]
 

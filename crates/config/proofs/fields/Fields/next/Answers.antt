@@ -17,7 +17,7 @@ step c =
     let stops : Stops 32 bytes (c .find-end .result) = record { bound = told .within; free = told .before; at = told .found } in
     ap fields-in (c .in-Some .is)
     ∙ elim (c .if-end-bytes .came) [
-      then-end-bytes w ↦ fields-more bytes (c .find-end .result) stops (w .if-end-bytes .taken) ∙ ap (λ r. take (c .find-end .result) bytes ∷ r) (ap fields (sym (w .after .ensures)) ∙ ap fields-in (sym (w .self-is)))
+      | then-end-bytes w ↦ fields-more bytes (c .find-end .result) stops (w .if-end-bytes .taken) ∙ ap (λ r. take (c .find-end .result) bytes ∷ r) (ap fields (sym (w .after .ensures)) ∙ ap fields-in (sym (w .self-is)))
       | else-end-bytes w ↦ fields-last bytes (c .find-end .result) stops (w .if-end-bytes .left) ∙ ap (λ r. take (c .find-end .result) bytes ∷ fields-in r) (sym (w .self-is))
     ]
 

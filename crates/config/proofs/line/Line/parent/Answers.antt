@@ -20,7 +20,7 @@ returns-in-rest c =
     let ended = ap (mapped now) (c .in-rest .is) in
     let told : (r : _) → c .if-i-eq0 .fault ≡ r → c .fault .result ≡ fault r (c .args .self .number) 0 = λ r is. c .fault .ensures ∙ ap (λ x. fault x (c .args .self .number) 0) is in
     elim (c .if-i-eq0 .came) [
-      then-i-eq0 w ↦ ap Err (told _ (w .fault-is)) ∙ sym (none-first (c .args .self .number) (c .args .i) _ ended (w .if-i-eq0 .taken))
+      | then-i-eq0 w ↦ ap Err (told _ (w .fault-is)) ∙ sym (none-first (c .args .self .number) (c .args .i) _ ended (w .if-i-eq0 .taken))
       | else-i-eq0 w ↦ ap Err (told _ (w .fault-is)) ∙ sym (none-later (c .args .self .number) (c .args .i) _ ended (omega (arith, w .if-i-eq0 .left)))
     ]
 
@@ -32,7 +32,7 @@ returns-then-is-empty c =
 on : (c : Joined-else-i-gt0) → (ltb 0 (c .args .i) && eqb (length (c .in-Some .line .now)) 0) ≡ false
 on c =
     elim (c .else-i-gt0 .came) [
-      else-i-gt0·by·then-i-gt0·else-is-empty w ↦ and-right _ _ (sym (w .if-is-empty .ensures tt))
+      | else-i-gt0·by·then-i-gt0·else-is-empty w ↦ and-right _ _ (sym (w .if-is-empty .ensures tt))
       | else-i-gt0·by·else-i-gt0 w ↦ and-left _ _ (le-ltb 0 (c .args .i) (w .if-i-gt0 .left))
     ]
 

@@ -43,7 +43,7 @@ pub returns : need.returns
 returns c =
     let read = unless-ok _ _ _ (c .in-Continue-row .ensures tt) in
     sym (right-at-row (c .args .self .number) (c .args .i) (c .args .pmts) _ _ _ (ap (mapped now) (c .in-Some .is)) (unless-ok _ _ _ (c .in-Continue-in-table .ensures tt) .0) (read .0) (read .1)
-      (λ pmt. elim (c .else-eq .came) [
-        else-eq·by·then-eq·else-pmts-ge42 w ↦ w .if-pmts-ge42 .left
-        | else-eq·by·else-eq w ↦ absurd (w .if-eq .ensures tt pmt)
-      ]))
+    (λ pmt. elim (c .else-eq .came) [
+      | else-eq·by·then-eq·else-pmts-ge42 w ↦ w .if-pmts-ge42 .left
+      | else-eq·by·else-eq w ↦ absurd (w .if-eq .ensures tt pmt)
+    ]))

@@ -35,8 +35,7 @@ returns-then-is-empty c =
 
 pub ghost-self : need.ghost-self
 ghost-self c =
-    let left = ap length (c .after-self .ensures) ∙ length-drop (c .find-end .result + 1) (c .args .self .now .rest .now) in
-    (
+    let left = ap length (c .after-self .ensures) ∙ length-drop (c .find-end .result + 1) (c .args .self .now .rest .now) in (
       sym (nth-here (lines (c .args .self .now .text .now)) (c .args .self .now .line) _ _ (step (need.at·ghost-self c .After-after-self)) .1),
       (omega (arith, left, some (need.at·ghost-self c .After-after-self), c .args .self .now .short), tt),
     )
