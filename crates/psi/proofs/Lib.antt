@@ -1,0 +1,13 @@
+pub mod Again
+pub mod Crcs
+pub mod Deliveries
+pub mod Entries
+pub mod Lookups
+pub mod Masks
+pub mod Packets
+pub mod Pats
+pub mod Placing
+pub mod Reading
+pub mod Shapes
+pub mod Tables
+pub mod Writing

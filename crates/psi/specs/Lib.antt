@@ -1,0 +1,9 @@
+pub mod Crc
+pub mod Delivery
+pub mod Lookup
+pub mod Packet
+pub mod Pat
+pub mod Patchable
+pub mod Places
+pub mod Pmt
+pub mod Sections

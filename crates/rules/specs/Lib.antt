@@ -1,0 +1,11 @@
+pub mod Entries
+pub mod Slots
+pub mod State
+pub mod Times
+pub mod Calls
+pub mod Log
+pub mod Laws
+pub mod Determined
+pub mod Invariants
+pub mod Cases
+pub mod Sites
