@@ -39,7 +39,7 @@ fn data(byte: u8) -> [u8; 188] {
     packet
 }
 
-pub fn bytes_of(kind: Kind) -> [u8; 188] {
+pub(crate) fn bytes_of(kind: Kind) -> [u8; 188] {
     let mut packet = stuffing();
     match kind {
         Kind::Stuffing => {}
@@ -51,7 +51,7 @@ pub fn bytes_of(kind: Kind) -> [u8; 188] {
     packet
 }
 
-pub fn put<C: Carrier>(carrier: &mut C, kind: Kind) -> Result<(), PutFault> {
+pub(crate) fn put<C: Carrier>(carrier: &mut C, kind: Kind) -> Result<(), PutFault> {
     let packet = bytes_of(kind);
     match kind {
         Kind::Short => carrier.put(&packet[0..187]),
@@ -60,7 +60,7 @@ pub fn put<C: Carrier>(carrier: &mut C, kind: Kind) -> Result<(), PutFault> {
 }
 
 // Packet `i` is of this kind.
-pub fn reads<C: Carrier>(carrier: &C, i: usize, kind: Kind) -> Result<(), Fail> {
+pub(crate) fn reads<C: Carrier>(carrier: &C, i: usize, kind: Kind) -> Result<(), Fail> {
     let mut place = [0; 188];
     check_eq(carrier.read(i, &mut place), Some(()))?;
     check(place == bytes_of(kind)).note(format_args!("packet {i}"))
@@ -93,7 +93,7 @@ fn take_step<C: Carrier>(carrier: &mut C, step: Step) -> Result<(), Fail> {
     }
 }
 
-pub fn follow<C: Carrier>(carrier: &mut C, steps: &[Step]) -> Result<(), Fail> {
+pub(crate) fn follow<C: Carrier>(carrier: &mut C, steps: &[Step]) -> Result<(), Fail> {
     for (i, step) in steps.iter().enumerate() {
         take_step(carrier, *step).note(format_args!("step {i}"))?;
     }

@@ -25,7 +25,7 @@ fn push_line(text: &mut String, line: &str) -> Result<(), AllocError> {
 }
 
 // The first `count` lines of the example.
-pub fn first_lines(heap: Global, count: usize) -> Result<String, AllocError> {
+pub(crate) fn first_lines(heap: Global, count: usize) -> Result<String, AllocError> {
     let mut text = String::new(heap);
     for line in EXAMPLE.iter().take(count) {
         push_line(&mut text, line)?;
@@ -34,7 +34,7 @@ pub fn first_lines(heap: Global, count: usize) -> Result<String, AllocError> {
 }
 
 // The example without line `number`.
-pub fn without_line(heap: Global, number: usize) -> Result<String, AllocError> {
+pub(crate) fn without_line(heap: Global, number: usize) -> Result<String, AllocError> {
     let mut text = String::new(heap);
     for (i, line) in EXAMPLE.iter().enumerate() {
         if i + 1 != number {
@@ -45,7 +45,7 @@ pub fn without_line(heap: Global, number: usize) -> Result<String, AllocError> {
 }
 
 // The example with line `number` replaced.
-pub fn with_line(heap: Global, number: usize, other: &str) -> Result<String, AllocError> {
+pub(crate) fn with_line(heap: Global, number: usize, other: &str) -> Result<String, AllocError> {
     let mut text = String::new(heap);
     for (i, line) in EXAMPLE.iter().enumerate() {
         push_line(&mut text, if i + 1 == number { other } else { line })?;
@@ -54,7 +54,7 @@ pub fn with_line(heap: Global, number: usize, other: &str) -> Result<String, All
 }
 
 // The example with something before and behind line `number`.
-pub fn around_line(
+pub(crate) fn around_line(
     heap: Global,
     number: usize,
     before: &str,
@@ -98,7 +98,7 @@ fn push_rows(heap: Global, text: &mut String, rows: u8, pmts: u8) -> Result<(), 
 }
 
 // A text of so many parents and rows, the first of which are `pmt`, and something behind them.
-pub fn made(
+pub(crate) fn made(
     heap: Global,
     parents: u8,
     rows: u8,
@@ -114,7 +114,12 @@ pub fn made(
 }
 
 // The first lines of the example, filled up to a length.
-pub fn filled(heap: Global, lines: usize, with: char, length: usize) -> Result<String, AllocError> {
+pub(crate) fn filled(
+    heap: Global,
+    lines: usize,
+    with: char,
+    length: usize,
+) -> Result<String, AllocError> {
     let mut text = first_lines(heap, lines)?;
     for _ in text.len()..length {
         text.push(with)?;

@@ -5,7 +5,7 @@ use std::alloc::AllocError;
 use std::alloc::Global;
 
 // The first word of a line, and what follows it.
-pub fn cut(line: &str) -> (&str, &str) {
+pub(crate) fn cut(line: &str) -> (&str, &str) {
     match line.split_once(' ') {
         Some(parts) => parts,
         None => (line, ""),
@@ -13,7 +13,7 @@ pub fn cut(line: &str) -> (&str, &str) {
 }
 
 // The bytes that a word writes in hex, up to the first that is none; `-` has none.
-pub fn bytes_in(heap: Global, word: &str) -> Result<Vec<u8>, AllocError> {
+pub(crate) fn bytes_in(heap: Global, word: &str) -> Result<Vec<u8>, AllocError> {
     let mut bytes = Vec::new(heap);
     for pair in word.as_bytes().chunks(2) {
         if let [high, low] = pair {
@@ -33,7 +33,7 @@ fn digit(c: u8) -> u8 {
 }
 
 // The number that a word writes; 0 for any other word.
-pub fn number_in(word: &str) -> u16 {
+pub(crate) fn number_in(word: &str) -> u16 {
     match word.parse::<u16>() {
         Ok(n) => n,
         Err(_) => 0,
@@ -41,7 +41,7 @@ pub fn number_in(word: &str) -> u16 {
 }
 
 // The same at 32 bits.
-pub fn large_in(word: &str) -> u32 {
+pub(crate) fn large_in(word: &str) -> u32 {
     match word.parse::<u32>() {
         Ok(n) => n,
         Err(_) => 0,
@@ -49,12 +49,12 @@ pub fn large_in(word: &str) -> u32 {
 }
 
 // A number below 256.
-pub fn small_in(word: &str) -> u8 {
+pub(crate) fn small_in(word: &str) -> u8 {
     (number_in(word) & 0xff) as u8
 }
 
 // PARENT PID OUT KIND SERVICE.
-pub fn row_in(line: &str) -> Row {
+pub(crate) fn row_in(line: &str) -> Row {
     let (parent, line) = cut(line);
     let (pid, line) = cut(line);
     let (out, line) = cut(line);
