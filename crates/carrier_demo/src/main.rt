@@ -5,8 +5,8 @@ use carrier::FoldedCarrier;
 use carrier::PutFault;
 use carrier::Strip;
 use carrier::StripCarrier;
+use psi::packet::Head;
 use psi::packet::is_stuffing;
-use psi::packet::pid_in;
 use psi::packet::stuffing;
 use std::error::AnyError;
 
@@ -60,6 +60,13 @@ fn put_runs<C: Carrier>(carrier: &mut C) -> Result<(), PutFault> {
     Ok(())
 }
 
+fn pid_of(packet: &[u8]) -> Result<u16, AnyError> {
+    match Head::of(packet) {
+        Some(head) => Ok(head.pid),
+        None => Err("what is held is no packet".into()),
+    }
+}
+
 // Prints the places and the packets that a carrier holds, stuffing in a row on one line.
 fn show<C: Carrier>(
     rt: &LibcRuntime,
@@ -86,7 +93,7 @@ fn show<C: Carrier>(
         }
         show_stuffing(rt, in_a_row)?;
         in_a_row = 0;
-        println!(rt, "  PID {}", pid_in(place[1], place[2]))?;
+        println!(rt, "  PID {}", pid_of(&place)?)?;
     }
     show_stuffing(rt, in_a_row)
 }
@@ -102,12 +109,9 @@ fn show_stuffing(rt: &LibcRuntime, times: usize) -> Result<(), AnyError> {
 fn show_folds(rt: &LibcRuntime, folded: &Folded) -> Result<(), AnyError> {
     println!(rt, "its bytes:")?;
     for fold in folded.bytes().chunks_exact(189) {
-        println!(
-            rt,
-            "  PID {}, count {}",
-            pid_in(fold[1], fold[2]),
-            fold[188]
-        )?;
+        if let Some((count, packet)) = fold.split_last() {
+            println!(rt, "  PID {}, count {count}", pid_of(packet)?)?;
+        }
     }
     println!(rt, "  and {} pending", folded.pending())?;
     Ok(())
