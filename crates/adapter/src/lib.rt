@@ -1,4 +1,5 @@
 // The adapter: hears parents' packets, takes framing records and places frames.
+#![tactic(auto)]
 pub mod answer;
 mod due;
 mod place;

@@ -1,3 +1,4 @@
 // The agreement of two sites, by tables.
+#![tactic(auto)]
 #[cfg(test)]
 mod tests;

@@ -1,4 +1,5 @@
 // Prints what the check says of many configuration texts: what the text is, and the answer to it.
+#![tactic(auto)]
 mod cases;
 #[cfg(test)]
 mod tests;

@@ -1,6 +1,7 @@
 // Checks a configuration text and prints one line: `ok parents 2 rows 2`, or `refused 3 line 6 field 2`.
 // The status is 0 for an accepted text and 1 for any other.
 // The text comes from the file that the one argument names, or from standard input.
+#![tactic(auto)]
 use anyhow::anyhow;
 use config::answer::answer_line;
 use std::alloc::Global;

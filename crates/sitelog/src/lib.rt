@@ -1,4 +1,5 @@
 // Site logs: the calls that the lines of a log write, and a site that takes them.
+#![tactic(auto)]
 pub mod call;
 pub mod fault;
 pub mod hex;

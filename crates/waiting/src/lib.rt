@@ -1,4 +1,5 @@
 // A waiting line: first in, first out, over slots that the caller owns and lends to each call.
+#![tactic(auto)]
 ghost use Rattle.std.specs.Prelude.{◌≡◌, ℕ, ◌<◌, ◌≤◌, List, [], ◌∷◌, ◌++◌, length, is_ok, if◌then◌else◌, OnErr, nat_lt, slice_set};
 ghost use Rattle.std.specs.Option.{option_map, option_to_list};
 ghost use Rattle.std.specs.List.Sorted.{IsNonDecreasingBy};
