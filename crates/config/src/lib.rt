@@ -1,5 +1,6 @@
 // The configuration of the core: its text, checked, and what a checked one holds.
 #![tactic(auto)]
+
 pub mod answer;
 pub mod check;
 mod clash;

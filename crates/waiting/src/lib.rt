@@ -1,5 +1,6 @@
 // A waiting line: first in, first out, over slots that the caller owns and lends to each call.
 #![tactic(auto)]
+
 ghost use Rattle.std.specs.Prelude.{◌≡◌, ℕ, ◌<◌, ◌≤◌, List, [], ◌∷◌, ◌++◌, length, is_ok, if◌then◌else◌, OnErr, nat_lt, slice_set};
 ghost use Rattle.std.specs.Option.{option_map, option_to_list};
 ghost use Rattle.std.specs.List.Sorted.{IsNonDecreasingBy};
@@ -130,9 +131,9 @@ impl<T: Copy> Line<T> {
 impl<T: Copy + Moment> Line<T> {
     // Those at the front whose moment is before `since` go. Where moments rise along the line, those that stay are all that are not before, and still rise.
     pub fn let_go_before(&mut self, slots: &[T], since: u64)
-        ensures after { waits self.new slots.now ≡ from_on moment since (waits self.old slots.now) }
-        ensures filtered { IsNonDecreasingBy moment (waits self.old slots.now) → waits self.new slots.now ≡ not_before moment since (waits self.old slots.now) }
-        ensures rises { IsNonDecreasingBy moment (waits self.old slots.now) → IsNonDecreasingBy moment (waits self.new slots.now) }
+        ensures after { waits self.new slots.now ≡ from_on T.moment since (waits self.old slots.now) }
+        ensures filtered { IsNonDecreasingBy T.moment (waits self.old slots.now) → waits self.new slots.now ≡ not_before T.moment since (waits self.old slots.now) }
+        ensures rises { IsNonDecreasingBy T.moment (waits self.old slots.now) → IsNonDecreasingBy T.moment (waits self.new slots.now) }
     {
         while let Some(x) = self.peek(slots) {
             if x.moment() >= since {

@@ -5,7 +5,7 @@ use Rattle.config.specs.declared.row.Kind.TheVariants.{Pass}
 use Rattle.config.specs.Verdict.{first_clash, first, clash_at, any_shares}
 use Rattle.config.proofs.Clashes.{unlisted_here, sharing_here, clash_past}
 use Rattle.config.proofs.clash.find_clash.Goals as goal
-use Rattle.config.proofs.clash.find_clash.Goals.{then-from-listed-via-then-from-listed, then-from-listed-via-else-from-listed+then-shares-any}
+use Rattle.config.proofs.clash.find_clash.Goals.{then-from-listed-via-then-from-listed, then-from-listed-via-else-from-listed+then-shares_any}
 
 -- what an index past the rows would read
 abbrev blank : Row
@@ -26,7 +26,7 @@ returns-then-from-listed c =
     record {
       value = sym (c.loop-i.invariant ∙ elim c.then-from-listed.branch [
         | then-from-listed-via-then-from-listed w ↦ unlisted_here c.args.listed rows i blank c.loop-i-test.true (subst (λ n. c.args.listed ≤ n) c.from.ensures w.if-from-listed.true)
-        | then-from-listed-via-else-from-listed+then-shares-any w ↦ sharing_here c.args.listed rows i blank c.loop-i-test.true (upto rows i (get_or rows i blank) _ w.if-shares-any.ensures)
+        | then-from-listed-via-else-from-listed+then-shares_any w ↦ sharing_here c.args.listed rows i blank c.loop-i-test.true (upto rows i (get_or rows i blank) _ w.if-shares_any.ensures)
       ]);
       within = c.loop-i-test.true;
     }
@@ -35,4 +35,4 @@ pub loop-i-preserved : goal.loop-i-preserved
 loop-i-preserved c =
     let rows = c.args.rows.now in
     let i = c.loop-i.i in
-    c.loop-i.invariant ∙ clash_past c.args.listed rows i blank c.loop-i-test.true (subst (λ n. n < c.args.listed) c.from.ensures c.if-from-listed.false) (upto rows i (get_or rows i blank) _ c.if-shares-any.ensures)
+    c.loop-i.invariant ∙ clash_past c.args.listed rows i blank c.loop-i-test.true (subst (λ n. n < c.args.listed) c.from.ensures c.if-from-listed.false) (upto rows i (get_or rows i blank) _ c.if-shares_any.ensures)

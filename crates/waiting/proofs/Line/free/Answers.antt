@@ -2,8 +2,8 @@ use Rattle.std.proofs.Common.{arith}
 use Rattle.waiting.proofs.Line.free.Goals as goal
 use Rattle.waiting.proofs.Rounds.{turned_set_on, turned_set_round, waits_joins}
 
-pub returns-then-self-to-last : goal.returns-then-self-to-last
-returns-then-self-to-last g c =
+pub returns-then-self-to_last : goal.returns-then-self-to_last
+returns-then-self-to_last g c =
     let line = c.args.self.now in
     let xs = c.args.slots.now in
     record {
@@ -11,8 +11,8 @@ returns-then-self-to-last g c =
       joins = λ x. waits_joins line xs c.start-start.result _ x c.requires c.start-start.ensures.round (turned_set_on c.start-start.result line.count xs x (omega arith));
     }
 
-pub returns-else-self-to-last : goal.returns-else-self-to-last
-returns-else-self-to-last g c =
+pub returns-else-self-to_last : goal.returns-else-self-to_last
+returns-else-self-to_last g c =
     let line = c.args.self.now in
     let xs = c.args.slots.now in
     record {

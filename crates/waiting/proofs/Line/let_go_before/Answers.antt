@@ -10,5 +10,5 @@ returns-then-moment-since g c =
 
 pub returns : goal.returns
 returns g c =
-    let ends = from_on_ends g.T.Moment.moment c.args.since (waits c.args.self.now c.args.slots.now) (waits c.loop-x.self c.args.slots.now) None c.loop-x.invariant c.in-default.ensures tt in
+    let ends = from_on_ends g.T.Moment.moment c.args.since (waits c.args.self.now c.args.slots.now) (waits c.loop-x.self c.args.slots.now) None c.loop-x.invariant c.in_default.ensures tt in
     record { after = ends.0; filtered = ends.1; rises = ends.2 }

@@ -5,18 +5,18 @@ use Rattle.waiting.specs.Waiting.{waits, oldest}
 
 pub start-requires : goal.start-requires
 start-requires g c =
-    omega (arith, length_waits c.args.self.now c.args.slots.now, oldest_some _ _ c.in-ok-x.ensures)
+    omega (arith, length_waits c.args.self.now c.args.slots.now, oldest_some _ _ c.in_ok-x.ensures)
 
-pub overflow-sub-self : goal.overflow-sub-self
-overflow-sub-self g c = omega (arith, oldest_some _ _ c.in-ok-x.ensures)
+pub overflow_sub-self : goal.overflow_sub-self
+overflow_sub-self g c = omega (arith, oldest_some _ _ c.in_ok-x.ensures)
 
 pub returns : goal.returns
 returns g c =
     let line = c.args.self.now in
     let xs = c.args.slots.now in
     let k = c.start.result in
-    let x = c.in-ok-x.x.now in
-    let is-oldest = c.in-ok-x.ensures in
+    let x = c.in_ok-x.x.now in
+    let is-oldest = c.in_ok-x.ensures in
     let long = length_waits line xs in
     let some : 0 < line.count = omega (arith, oldest_some _ _ is-oldest) in
     let front = waits_cons line xs k x some c.start.ensures.within (c.start.ensures.round xs refl) in

@@ -6,10 +6,10 @@ pub returns-in-None : goal.returns-in-None
 unfolding end_wrong
 returns-in-None c = rw c.in-None.is (ap Err c.fault.ensures)
 
-pub returns-then-is-empty : goal.returns-then-is-empty
+pub returns-then-is_empty : goal.returns-then-is_empty
 unfolding line_wrong
-returns-then-is-empty c = rw (c.in-Some.is, sym c.if-is-empty.ensures) refl
+returns-then-is_empty c = rw (c.in-Some.is, sym c.if-is_empty.ensures) refl
 
-pub returns-else-is-empty : goal.returns-else-is-empty
+pub returns-else-is_empty : goal.returns-else-is_empty
 unfolding line_wrong
-returns-else-is-empty c = rw (c.in-Some.is, sym c.if-is-empty.ensures) (ap Err c.fault-else-is-empty.ensures)
+returns-else-is_empty c = rw (c.in-Some.is, sym c.if-is_empty.ensures) (ap Err c.fault-else-is_empty.ensures)

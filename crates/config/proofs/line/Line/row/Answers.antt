@@ -11,32 +11,32 @@ use Rattle.config.proofs.line.Line.row.Goals.{else-eq-via-then-eq+else-pmts-ge42
 pub returns-then-i-eq0 : goal.returns-then-i-eq0
 returns-then-i-eq0 c =
     ap Err c.fault.ensures
-    ∙ sym (no_row_first c.args.self.number c.args.i c.args.pmts _ (ap (option_map (λ x. x.now)) c.in-default.is) c.if-i-eq0.true)
+    ∙ sym (no_row_first c.args.self.number c.args.i c.args.pmts _ (ap (option_map (λ x. x.now)) c.in_default.is) c.if-i-eq0.true)
 
 pub returns-else-i-eq0 : goal.returns-else-i-eq0
 returns-else-i-eq0 c =
-    sym (no_row_later c.args.self.number c.args.i c.args.pmts _ (ap (option_map (λ x. x.now)) c.in-default.is) c.if-i-eq0.false)
+    sym (no_row_later c.args.self.number c.args.i c.args.pmts _ (ap (option_map (λ x. x.now)) c.in_default.is) c.if-i-eq0.false)
 
-pub returns-in-err-in-table : goal.returns-in-err-in-table
-returns-in-err-in-table c =
-    err_is _ _ c.from-residual.ensures.1
-    ∙ sym (no_row c.args.self.number c.args.i c.args.pmts _ _ _ (ap (option_map (λ x. x.now)) c.in-Some.is) (unless_err _ _ _ c.in-err-in-table.ensures))
+pub returns-in_err-in_table : goal.returns-in_err-in_table
+returns-in_err-in_table c =
+    err_is _ _ c.from_residual.ensures.1
+    ∙ sym (no_row c.args.self.number c.args.i c.args.pmts _ _ _ (ap (option_map (λ x. x.now)) c.in-Some.is) (unless_err _ _ _ c.in_err-in_table.ensures))
 
-pub returns-in-err-row : goal.returns-in-err-row
-returns-in-err-row c =
-    err_is _ _ c.from-residual-in-err-row.ensures.1
-    ∙ sym (wrong_row c.args.self.number c.args.i c.args.pmts _ _ _ (ap (option_map (λ x. x.now)) c.in-Some.is) (unless_ok _ _ _ c.in-ok-in-table.ensures).0 (unless_err _ _ _ c.in-err-row.ensures))
+pub returns-in_err-row : goal.returns-in_err-row
+returns-in_err-row c =
+    err_is _ _ c.from_residual-in_err-row.ensures.1
+    ∙ sym (wrong_row c.args.self.number c.args.i c.args.pmts _ _ _ (ap (option_map (λ x. x.now)) c.in-Some.is) (unless_ok _ _ _ c.in_ok-in_table.ensures).0 (unless_err _ _ _ c.in_err-row.ensures))
 
 pub returns-then-pmts-ge42 : goal.returns-then-pmts-ge42
 returns-then-pmts-ge42 c =
-    let read = unless_ok _ _ _ c.in-ok-row.ensures in
+    let read = unless_ok _ _ _ c.in_ok-row.ensures in
     ap Err c.fault-then-pmts-ge42.ensures
-    ∙ sym (one_pmt_more c.args.self.number c.args.i c.args.pmts _ _ _ (ap (option_map (λ x. x.now)) c.in-Some.is) (unless_ok _ _ _ c.in-ok-in-table.ensures).0 read.0 read.1 c.if-eq.ensures c.if-pmts-ge42.true)
+    ∙ sym (one_pmt_more c.args.self.number c.args.i c.args.pmts _ _ _ (ap (option_map (λ x. x.now)) c.in-Some.is) (unless_ok _ _ _ c.in_ok-in_table.ensures).0 read.0 read.1 c.if-eq.ensures c.if-pmts-ge42.true)
 
 pub returns : goal.returns
 returns c =
-    let read = unless_ok _ _ _ c.in-ok-row.ensures in
-    sym (right_at_row c.args.self.number c.args.i c.args.pmts _ _ _ (ap (option_map (λ x. x.now)) c.in-Some.is) (unless_ok _ _ _ c.in-ok-in-table.ensures).0 read.0 read.1
+    let read = unless_ok _ _ _ c.in_ok-row.ensures in
+    sym (right_at_row c.args.self.number c.args.i c.args.pmts _ _ _ (ap (option_map (λ x. x.now)) c.in-Some.is) (unless_ok _ _ _ c.in_ok-in_table.ensures).0 read.0 read.1
     (λ pmt. elim c.else-eq.branch [
       | else-eq-via-then-eq+else-pmts-ge42 w ↦ w.if-pmts-ge42.false
       | else-eq-via-else-eq w ↦ absurd (w.if-eq.ensures pmt)

@@ -7,7 +7,7 @@ use Rattle.config.proofs.reader.Reader.next_line.Goals as goal
 use Rattle.config.proofs.reader.Reader.next_line.Goals.{After-after-self}
 
 some : (c : After-after-self) → 0 < length c.args.self.now.rest.now
-some c = omega (arith, eqb-false _ 0 (sym c.if-is-empty.ensures))
+some c = omega (arith, eqb-false _ 0 (sym c.if-is_empty.ensures))
 
 -- the line that comes off, and the lines left behind it
 step : (c : After-after-self) → drop c.args.self.now.line (lines c.args.self.now.text.now) ≡ take c.find-end.result c.args.self.now.rest.now ∷ lines c.after-self.result.now
@@ -17,9 +17,9 @@ step c =
     ∙ lines_step c.args.self.now.rest.now c.find-end.result (record { bound = told.within; free = told.before; at = told.found }) (some c)
     ∙ ap (λ r. take c.find-end.result c.args.self.now.rest.now ∷ lines r) (sym c.after-self.ensures)
 
-pub returns-then-is-empty : goal.returns-then-is-empty
-returns-then-is-empty c =
-    let ended = nth_none (lines c.args.self.now.text.now) c.args.self.now.line (sym c.args.self.now.place ∙ lines_none _ (eqb-true _ 0 (sym c.if-is-empty.ensures))) in
+pub returns-then-is_empty : goal.returns-then-is_empty
+returns-then-is_empty c =
+    let ended = nth_none (lines c.args.self.now.text.now) c.args.self.now.line (sym c.args.self.now.place ∙ lines_none _ (eqb-true _ 0 (sym c.if-is_empty.ensures))) in
     record {
       number = c.new.ensures.number ∙ add-one _;
       bytes = c.new.ensures.bytes ∙ sym ended;
@@ -27,11 +27,11 @@ returns-then-is-empty c =
       behind = rw ended (sym (add-zero _));
     }
 
-pub invariant-of-self : goal.invariant-of-self
-invariant-of-self c =
+pub invariant_of-self : goal.invariant_of-self
+invariant_of-self c =
     let left = ap length c.after-self.ensures ∙ length-drop (c.find-end.result + 1) c.args.self.now.rest.now in (
-      sym (nth_here (lines c.args.self.now.text.now) c.args.self.now.line _ _ (step (goal.at.invariant-of-self c).After-after-self)).1,
-      (omega (arith, left, some (goal.at.invariant-of-self c).After-after-self, c.args.self.now.short), tt),
+      sym (nth_here (lines c.args.self.now.text.now) c.args.self.now.line _ _ (step (goal.at.invariant_of-self c).After-after-self)).1,
+      (omega (arith, left, some (goal.at.invariant_of-self c).After-after-self, c.args.self.now.short), tt),
     )
 
 pub returns : goal.returns
