@@ -72,14 +72,14 @@ of-requires c =
     let head = c.in_ok-settings.ensures in
     let rows = c.in_ok-rows.ensures.1 in
     let items = vec_items c.in_ok-rows.rows in
-    let none = clash_is (goal.at.of-requires c).After-find_clash ∙ c.in_default.is in (
-      subst (λ (s : Settings). SettingsInRange s.ticks s.backlog s.copies s.tsid) (sym head.1) (settings_range _ head.0.inside head.0.right),
-      c.in_ok-rates.ensures.1.1,
-      rows.2,
-      rows.3,
-      subst (λ n. AllListed n items) (sym c.in_ok-rates.rates.ok.0) (all_listed _ items none),
-      none_shares _ items none,
-    )
+    let none = clash_is (goal.at.of-requires c).After-find_clash ∙ c.in_default.is in record {
+      settings_in_range = subst (λ (s : Settings). SettingsInRange s.ticks s.backlog s.copies s.tsid) (sym head.1) (settings_range _ head.0.inside head.0.right);
+      rates_in_range = c.in_ok-rates.ensures.1.1;
+      rows_counted = rows.2;
+      rows_in_range = rows.3;
+      all_listed = subst (λ n. AllListed n items) (sym c.in_ok-rates.rates.ok.0) (all_listed _ items none);
+      none_shares = none_shares _ items none;
+    }
 
 pub returns : goal.returns
 returns c =

@@ -1,4 +1,5 @@
-use Rattle.std.proofs.Common.{◌≡◌, ◌+◌, cond, length, Ok, vec_items, sym, refl, ap, ◌∙◌, arith}
+use Rattle.std.proofs.Common.{◌≡◌, ◌+◌, cond, length, Ok, vec_items, sym, refl, ap, ◌∙◌, arith, rules}
+use Rattle.config.specs.declared.row.Kind.TheVariants.{Pmt}
 use Rattle.config.specs.Rows.{is_pmt}
 use Rattle.config.proofs.ThirdTable.{no_pmt, same_rows, row_wrong_here, row_more, rows_done}
 use Rattle.config.proofs.Walks.{memory_reads_err}
@@ -18,8 +19,8 @@ returns-in_err-row c =
 counted : (c : In_ok-push) → c.if-eq.pmts ≡ c.loop-rows.pmts + cond (is_pmt c.in-Some.row.kind) 1 0
 counted c =
     elim c.if-eq.branch [
-      | then-eq w ↦ w.pmts-is ∙ ap (λ k. c.loop-rows.pmts + cond (is_pmt k) 1 0) (sym w.if-eq.ensures)
-      | else-eq w ↦ w.pmts-is ∙ no_pmt c.in-Some.row.kind c.loop-rows.pmts w.if-eq.ensures
+      | then-eq w ↦ w.pmts-is ∙ ap (λ k. c.loop-rows.pmts + cond (is_pmt k) 1 0) (sym (let e : c.in-Some.row.kind ≡ Pmt = let h = w.if-eq.ensures in search rules in e))
+      | else-eq w ↦ w.pmts-is ∙ no_pmt c.in-Some.row.kind c.loop-rows.pmts (let h = w.if-eq.ensures in search rules)
     ]
 
 pub loop-rows-preserved : goal.loop-rows-preserved

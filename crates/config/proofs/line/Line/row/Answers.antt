@@ -1,4 +1,4 @@
-use Rattle.std.proofs.Common.{◌≡◌, true, false, ◌&&◌, leb, Some, None, Ok, Err, sym, refl, ap, ◌∙◌, arith}
+use Rattle.std.proofs.Common.{◌≡◌, true, false, ◌&&◌, leb, Some, None, Ok, Err, sym, refl, ap, ◌∙◌, arith, rules}
 use Rattle.std.specs.Option.{option_map}
 use Rattle.std.proofs.lemmas.Bool.{le-leb, lt-leb, and_left, and_right, and_from}
 use Rattle.config.specs.Layout.{row_of}
@@ -31,7 +31,7 @@ pub returns-then-pmts-ge42 : goal.returns-then-pmts-ge42
 returns-then-pmts-ge42 c =
     let read = unless_ok _ _ _ c.in_ok-row.ensures in
     ap Err c.fault-then-pmts-ge42.ensures
-    ∙ sym (one_pmt_more c.args.self.number c.args.i c.args.pmts _ _ _ (ap (option_map (λ x. x.now)) c.in-Some.is) (unless_ok _ _ _ c.in_ok-in_table.ensures).0 read.0 read.1 c.if-eq.ensures c.if-pmts-ge42.true)
+    ∙ sym (one_pmt_more c.args.self.number c.args.i c.args.pmts _ _ _ (ap (option_map (λ x. x.now)) c.in-Some.is) (unless_ok _ _ _ c.in_ok-in_table.ensures).0 read.0 read.1 (let h = c.if-eq.ensures in search rules) c.if-pmts-ge42.true)
 
 pub returns : goal.returns
 returns c =
@@ -39,5 +39,5 @@ returns c =
     sym (right_at_row c.args.self.number c.args.i c.args.pmts _ _ _ (ap (option_map (λ x. x.now)) c.in-Some.is) (unless_ok _ _ _ c.in_ok-in_table.ensures).0 read.0 read.1
     (λ pmt. elim c.else-eq.branch [
       | else-eq-via-then-eq+else-pmts-ge42 w ↦ w.if-pmts-ge42.false
-      | else-eq-via-else-eq w ↦ absurd (w.if-eq.ensures pmt)
+      | else-eq-via-else-eq w ↦ absurd (let h = w.if-eq.ensures in search rules)
     ]))

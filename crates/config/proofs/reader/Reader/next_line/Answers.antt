@@ -29,10 +29,10 @@ returns-then-is_empty c =
 
 pub invariant_of-self : goal.invariant_of-self
 invariant_of-self c =
-    let left = ap length c.after-self.ensures ∙ length-drop (c.find-end.result + 1) c.args.self.now.rest.now in (
-      sym (nth_here (lines c.args.self.now.text.now) c.args.self.now.line _ _ (step (goal.at.invariant_of-self c).After-after-self)).1,
-      (omega (arith, left, some (goal.at.invariant_of-self c).After-after-self, c.args.self.now.short), tt),
-    )
+    let left = ap length c.after-self.ensures ∙ length-drop (c.find-end.result + 1) c.args.self.now.rest.now in record {
+      place = sym (nth_here (lines c.args.self.now.text.now) c.args.self.now.line _ _ (step (goal.at.invariant_of-self c).After-after-self)).1;
+      short = omega (arith, left, some (goal.at.invariant_of-self c).After-after-self, c.args.self.now.short);
+    }
 
 pub returns : goal.returns
 returns c =
