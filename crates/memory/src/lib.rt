@@ -192,9 +192,9 @@ impl<T: Copy + Moment> Memory<T> {
     // Those at the front of line p whose moment is before `since` go.
     // Where moments rise along the line, those that stay are all that are not before, and still rise.
     pub fn let_go_before(&mut self, p: usize, since: u64)
-        ensures lines { lines_in self.new ≡ slice_set (lines_in self.old) p (from_on moment since (line_in self.old p)) }
-        ensures filtered { IsNonDecreasingBy moment (line_in self.old p) → line_in self.new p ≡ not_before moment since (line_in self.old p) }
-        ensures rises { IsNonDecreasingBy moment (line_in self.old p) → IsNonDecreasingBy moment (line_in self.new p) }
+        ensures lines { lines_in self.new ≡ slice_set (lines_in self.old) p (from_on T.moment since (line_in self.old p)) }
+        ensures filtered { IsNonDecreasingBy T.moment (line_in self.old p) → line_in self.new p ≡ not_before T.moment since (line_in self.old p) }
+        ensures rises { IsNonDecreasingBy T.moment (line_in self.old p) → IsNonDecreasingBy T.moment (line_in self.new p) }
         ensures rest { OnlyLines self.old self.new }
     {
         if let Some((from, to)) = self.region(p) {

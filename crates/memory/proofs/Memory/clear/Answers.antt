@@ -7,9 +7,9 @@ pub returns-then-p-parents : goal.returns-then-p-parents
 returns-then-p-parents g c =
     let m = c.args.self.now in
     let p = c.args.p in
-    let line = c.let-all-go.new.self in
+    let line = c.let_all_go.new.self in
     record {
-      lines = with_line_lines m line m.slots refl p (λ b n apart. refl) (omega arith) ∙ ap (set (lines_in m) p) (c.let-all-go.ensures _);
+      lines = with_line_lines m line m.slots refl p (λ b n apart. refl) (omega arith) ∙ ap (set (lines_in m) p) (c.let_all_go.ensures _);
       rest = only_lines m line m.slots refl p (λ b n apart. refl);
     }
 

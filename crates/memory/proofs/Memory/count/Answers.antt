@@ -3,9 +3,9 @@ use Rattle.memory.proofs.Memory.count.Goals as goal
 use Rattle.memory.proofs.Shares.{seen, line_bound, no_line}
 use Rattle.memory.specs.Memory.{line_in}
 
-pub returns-in-default : goal.returns-in-default
-returns-in-default g c =
-    record { value = sym (ap length (no_line c.args.self.now c.args.p c.in-default.ensures)); bound = omega arith }
+pub returns-in_default : goal.returns-in_default
+returns-in_default g c =
+    record { value = sym (ap length (no_line c.args.self.now c.args.p c.in_default.ensures)); bound = omega arith }
 
 pub returns : goal.returns
 returns g c =

@@ -8,4 +8,4 @@ pub returns : goal.returns
 returns g c =
     let m = c.args.self.now in
     let n : c.size-size.result - 0 ≡ size_in m = omega arith in
-    c.first.ensures ∙ ap oldest (sym (backlog_seen m (c.size-size.result - 0) c.deref.result.now n c.deref.ensures.value))
+    c.peek.ensures ∙ ap oldest (sym (backlog_seen m (c.size-size.result - 0) c.deref.result.now n c.deref.ensures.value))

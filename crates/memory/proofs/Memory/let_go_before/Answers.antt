@@ -12,8 +12,8 @@ returns-in-Some g c =
     let xs = c.deref.result.now in
     let all = c.deref.ensures.value in
     let here = c.in-Some.ensures in
-    let line = c.let-go-before.new.self in
-    let left = c.let-go-before.ensures in
+    let line = c.let_go_before.new.self in
+    let left = c.let_go_before.ensures in
     let before = seen m p from to _ xs here all in
     let after = line_after m _ p _ here.line (moved_lines m p from to line here xs _ all refl) in
     let told = rise_tells m _ _ _ p _ _ before after left.filtered left.rises in
@@ -24,10 +24,10 @@ returns-in-Some g c =
       rest = moved_only m p from to line here;
     }
 
-pub returns-in-default : goal.returns-in-default
-returns-in-default g c =
+pub returns-in_default : goal.returns-in_default
+returns-in_default g c =
     let m = c.args.self.now in
-    let past = c.in-default.ensures in
+    let past = c.in_default.ensures in
     record {
       lines = set_no_line m c.args.p _ past;
       filtered = λ up. rw (no_line m c.args.p past) refl;

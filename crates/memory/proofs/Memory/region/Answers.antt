@@ -12,14 +12,14 @@ ends g c =
     let here : c.size.result + c.args.p * c.room-room.result + c.room-room.result ≡ size_in m + c.args.p * room_in m + room_in m = cc in
     omega (arith, line_fits m c.args.p (omega arith))
 
-pub overflow-mul-from : goal.overflow-mul-from
-overflow-mul-from g c = let all = ends g c in omega (arith, c.args.self.now.slots.small)
+pub overflow_mul-from : goal.overflow_mul-from
+overflow_mul-from g c = let all = ends g c in omega (arith, c.args.self.now.slots.small)
 
-pub overflow-add-from : goal.overflow-add-from
-overflow-add-from g c = let all = ends g c in omega (arith, c.args.self.now.slots.small)
+pub overflow_add-from : goal.overflow_add-from
+overflow_add-from g c = let all = ends g c in omega (arith, c.args.self.now.slots.small)
 
-pub overflow-add-result : goal.overflow-add-result
-overflow-add-result g c = let all = ends g c in omega (arith, c.args.self.now.slots.small)
+pub overflow_add-result : goal.overflow_add-result
+overflow_add-result g c = let all = ends g c in omega (arith, c.args.self.now.slots.small)
 
 pub returns : goal.returns
 unfolding start_in

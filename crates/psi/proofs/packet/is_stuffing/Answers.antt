@@ -5,5 +5,5 @@ use Rattle.std.proofs.lemmas.Bool.Decides.{Decides-eqb}
 
 pub returns : goal.returns
 returns c =
-    subst (λ ys. Decides c.eq.result (c.args.packet.now ≡ ys)) (c.as-slice.ensures ∙ c.stuffing.ensures.value)
+    subst (λ ys. Decides c.eq.result (c.args.packet.now ≡ ys)) (c.as_slice.ensures ∙ c.stuffing.ensures.value)
     (slice_eq-Decides Decides-eqb _ _ _ c.eq.ensures)

@@ -7,8 +7,8 @@ use Rattle.psi.proofs.Pats.{more_pmt, more_pass, more_program, no_program}
 use Rattle.psi.proofs.pat.put_programs.Goals as goal
 use Rattle.psi.proofs.pat.put_programs.Goals.{in-Pmt, in-Pass}
 
-pub put-all-requires : goal.put-all-requires
-put-all-requires c =
+pub put_all-requires : goal.put_all-requires
+put_all-requires c =
     let n = more_pmt c.args.rows.now c.loop-row.row-index _ c.loop-row-test.true c.in-Pmt.is in
     omega arith
 
@@ -20,9 +20,9 @@ loop-row-preserved c =
     let h = c.loop-row-test.true in
     elim c.match-row.branch [
       | in-Pmt w ↦ (
-        (let n = more_pmt rows i _ h w.in-Pmt.is in let m = ap (λ p. p.len) w.place-is in omega (arith, w.put-all.ensures.len)),
+        (let n = more_pmt rows i _ h w.in-Pmt.is in let m = ap (λ p. p.len) w.place-is in omega (arith, w.put_all.ensures.len)),
         ap (λ p. written p ++ rest) w.place-is
-            ∙ ap (λ l. l ++ rest) (w.put-all.ensures.written ∙ ap (λ l. written c.loop-row.place ++ l) w.entry-of.ensures)
+            ∙ ap (λ l. l ++ rest) (w.put_all.ensures.written ∙ ap (λ l. written c.loop-row.place ++ l) w.entry_of.ensures)
             ∙ append_assoc (written c.loop-row.place) _ rest
             ∙ ap (λ l. written c.loop-row.place ++ l) (sym (more_program rows i _ h w.in-Pmt.is))
             ∙ c.loop-row.invariant.1,

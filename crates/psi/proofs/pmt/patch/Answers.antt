@@ -7,51 +7,51 @@ use Rattle.psi.proofs.Again.{told}
 use Rattle.psi.proofs.Masks.{low_eight}
 use Rattle.psi.proofs.Shapes.{unopened, unsound, unfilled, patched_some, closed_pmt, opens_parts, told_none, told_some}
 use Rattle.psi.proofs.pmt.patch.Goals as goal
-use Rattle.psi.proofs.pmt.patch.Goals.{In-ok-section, After-put-section}
+use Rattle.psi.proofs.pmt.patch.Goals.{In_ok-section, After-put_section}
 
-pub returns-in-err-opened : goal.returns-in-err-opened
-returns-in-err-opened c =
-    told c.args.rows.now c.args.row.now c.args.packet.now c.from-residual.result (λ i. (c.type-inv.packet i).fits)
-    (c.from-residual.ensures ∙ sym (unopened c.args.rows.now c.args.row.now c.args.packet.now c.in-err-opened.ensures))
+pub returns-in_err-opened : goal.returns-in_err-opened
+returns-in_err-opened c =
+    told c.args.rows.now c.args.row.now c.args.packet.now c.from_residual.result (λ i. (c.type_inv.packet i).fits)
+    (c.from_residual.ensures ∙ sym (unopened c.args.rows.now c.args.row.now c.args.packet.now c.in_err-opened.ensures))
 
-pub returns-in-err-section : goal.returns-in-err-section
-returns-in-err-section c =
-    let start = c.in-ok-opened.ensures in
-    told c.args.rows.now c.args.row.now c.args.packet.now c.from-residual-in-err-section.result (λ i. (c.type-inv.packet i).fits)
-    (c.from-residual-in-err-section.ensures
+pub returns-in_err-section : goal.returns-in_err-section
+returns-in_err-section c =
+    let start = c.in_ok-opened.ensures in
+    told c.args.rows.now c.args.row.now c.args.packet.now c.from_residual-in_err-section.result (λ i. (c.type_inv.packet i).fits)
+    (c.from_residual-in_err-section.ensures
     ∙ sym (unsound c.args.rows.now c.args.row.now c.args.packet.now start.0
-    (subst (λ (bs : Bytes). (fixed_part bs && right_crc bs) ≡ false) start.1 c.in-err-section.ensures)))
+    (subst (λ (bs : Bytes). (fixed_part bs && right_crc bs) ≡ false) start.1 c.in_err-section.ensures)))
 
-sound : (c : In-ok-section) → (fixed_part (drop 5 c.args.packet.now) && right_crc (drop 5 c.args.packet.now)) ≡ true
-sound c = subst (λ (bs : Bytes). (fixed_part bs && right_crc bs) ≡ true) c.in-ok-opened.ensures.1 c.in-ok-section.ensures.0
+sound : (c : In_ok-section) → (fixed_part (drop 5 c.args.packet.now) && right_crc (drop 5 c.args.packet.now)) ≡ true
+sound c = subst (λ (bs : Bytes). (fixed_part bs && right_crc bs) ≡ true) c.in_ok-opened.ensures.1 c.in_ok-section.ensures.0
 
 -- what was written of the section
-wrote : (c : After-put-section)
-    → SectionWritten c.args.rows.now c.args.row.now (written c.put-all.new.self) (before_crc (drop 5 c.args.packet.now)) (written c.put-section.new.place) c.put-section.result
+wrote : (c : After-put_section)
+    → SectionWritten c.args.rows.now c.args.row.now (written c.put_all.new.self) (before_crc (drop 5 c.args.packet.now)) (written c.put_section.new.place) c.put_section.result
 wrote c =
-    subst (λ (s : Bytes). SectionWritten c.args.rows.now c.args.row.now (written c.put-all.new.self) s (written c.put-section.new.place) c.put-section.result)
-    (c.in-ok-section.ensures.1 ∙ ap before_crc c.in-ok-opened.ensures.1) c.put-section.ensures.written
+    subst (λ (s : Bytes). SectionWritten c.args.rows.now c.args.row.now (written c.put_all.new.self) s (written c.put_section.new.place) c.put_section.result)
+    (c.in_ok-section.ensures.1 ∙ ap before_crc c.in_ok-opened.ensures.1) c.put_section.ensures.written
 
-pub returns-then-not-put-section : goal.returns-then-not-put-section
-returns-then-not-put-section c =
-    let d = (goal.at.returns-then-not-put-section c).After-put-section in
-    told c.args.rows.now c.args.row.now c.args.packet.now None (λ i. (c.type-inv.packet i).fits)
-    (sym (unfilled c.args.rows.now c.args.row.now c.args.packet.now c.in-ok-opened.ensures.0 (sound (goal.at.returns-then-not-put-section c).In-ok-section)
-    (told_none _ c.put-section.result _ (wrote d) c.if-not-put-section.true)))
+pub returns-then-not-put_section : goal.returns-then-not-put_section
+returns-then-not-put_section c =
+    let d = (goal.at.returns-then-not-put_section c).After-put_section in
+    told c.args.rows.now c.args.row.now c.args.packet.now None (λ i. (c.type_inv.packet i).fits)
+    (sym (unfilled c.args.rows.now c.args.row.now c.args.packet.now c.in_ok-opened.ensures.0 (sound (goal.at.returns-then-not-put_section c).In_ok-section)
+    (told_none _ c.put_section.result _ (wrote d) c.if-not-put_section.true)))
 
 pub returns : goal.returns
 returns c =
-    let d = (goal.at.returns c).After-put-section in
+    let d = (goal.at.returns c).After-put_section in
     let x = c.args.packet.now in
     let row = c.args.row.now in
     let rows = c.args.rows.now in
     let s : Bytes = before_crc (drop 5 x) in
-    let opened = c.in-ok-opened.ensures.0 in
-    let got = told_some _ c.put-section.result _ (wrote d) c.if-not-put-section.false in
-    let head : written c.put-all.new.self ≡ 0x47 ∷ pid_high (byte x 1) row.out ∷ row.out % 0x100 ∷ byte x 3 ∷ 0x00 ∷ [] =
-    c.put-all.ensures.written ∙ (λ i. c.new-place.ensures.written i ++ (0x47 ∷ c.pid_high.ensures i ∷ low_eight row.out i ∷ byte x 3 ∷ 0x00 ∷ [])) in
-    told rows row x (Some c.finish.result) (λ i. (c.type-inv.packet i).fits)
+    let opened = c.in_ok-opened.ensures.0 in
+    let got = told_some _ c.put_section.result _ (wrote d) c.if-not-put_section.false in
+    let head : written c.put_all.new.self ≡ 0x47 ∷ pid_high (byte x 1) row.out ∷ row.out % 0x100 ∷ byte x 3 ∷ 0x00 ∷ [] =
+    c.put_all.ensures.written ∙ (λ i. c.new-place.ensures.written i ++ (0x47 ∷ c.pid_high.ensures i ∷ low_eight row.out i ∷ byte x 3 ∷ 0x00 ∷ [])) in
+    told rows row x (Some c.finish.result) (λ i. (c.type_inv.packet i).fits)
     (ap Some
     (c.finish.ensures
     ∙ ap filled (c.close.ensures ∙ ap closed (got.2 ∙ (λ i. head i ++ (0x02 ∷ byte s 1 ∷ byte s 2 ∷ section_body (patch_section rows row (section_with s got.0))))) ∙ closed_pmt rows row x s got.0 (opens_parts x opened)))
-    ∙ sym (patched_some rows row x got.0 opened (sound (goal.at.returns c).In-ok-section) got.1))
+    ∙ sym (patched_some rows row x got.0 opened (sound (goal.at.returns c).In_ok-section) got.1))

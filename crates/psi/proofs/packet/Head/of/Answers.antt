@@ -7,12 +7,12 @@ use Rattle.psi.proofs.packet.Head.of.Goals as goal
 use Rattle.psi.proofs.packet.Head.of.Goals.{then-rest-via-then-rest, then-rest-via-else-rest+then-b1-ge128}
 
 -- src/packet.rt:36:13
-pub returns-in-default : goal.returns-in-default
-returns-in-default c = sym (cond-false _ _ _ (bad_from c.args.packet.now (λ g. omega (arith, ltb-true, leb-true, ltb-false))))
+pub returns-in_default : goal.returns-in_default
+returns-in_default c = sym (cond-false _ _ _ (bad_from c.args.packet.now (λ g. omega (arith, ltb-true, leb-true, ltb-false))))
 
 -- src/packet.rt:36:13
-pub returns-in-default·2 : goal.returns-in-default·2
-returns-in-default·2 c = sym (cond-false _ _ _ (bad_from c.args.packet.now (λ g. omega arith)))
+pub returns-in_default-2 : goal.returns-in_default-2
+returns-in_default-2 c = sym (cond-false _ _ _ (bad_from c.args.packet.now (λ g. omega arith)))
 
 -- src/packet.rt:39:13
 pub returns-then-rest : goal.returns-then-rest

@@ -4,17 +4,17 @@ use Rattle.psi.proofs.Shapes.{Fixed, fixed_from, fixed_not}
 use Rattle.psi.proofs.pmt.section.crc_place.Goals as goal
 use Rattle.psi.proofs.pmt.section.crc_place.Goals.{then-high-lt128-via-then-high-lt128, then-high-lt128-via-else-high-lt128+then-length-lt13, then-high-lt128-via-else-high-lt128+else-length-lt13+then-length-gt180, then-high-lt128-via-else-high-lt128+else-length-lt13+else-length-gt180+then-length-bytes}
 
-pub returns-in-default : goal.returns-in-default
-returns-in-default c = fixed_not c.args.bytes.now (λ f. omega (arith, ltb-true))
+pub returns-in_default : goal.returns-in_default
+returns-in_default c = fixed_not c.args.bytes.now (λ f. omega (arith, ltb-true))
 
-pub returns-in-default·2 : goal.returns-in-default·2
-returns-in-default·2 c = fixed_not c.args.bytes.now (λ f. omega arith)
+pub returns-in_default-2 : goal.returns-in_default-2
+returns-in_default-2 c = fixed_not c.args.bytes.now (λ f. omega arith)
 
-pub returns-in-default·3 : goal.returns-in-default·3
-returns-in-default·3 c = fixed_not c.args.bytes.now (λ f. omega arith)
+pub returns-in_default-3 : goal.returns-in_default-3
+returns-in_default-3 c = fixed_not c.args.bytes.now (λ f. omega arith)
 
-pub returns-in-default·4 : goal.returns-in-default·4
-returns-in-default·4 c = fixed_not c.args.bytes.now (λ f. omega arith)
+pub returns-in_default-4 : goal.returns-in_default-4
+returns-in_default-4 c = fixed_not c.args.bytes.now (λ f. omega arith)
 
 pub returns-then-high-lt128 : goal.returns-then-high-lt128
 returns-then-high-lt128 c =
@@ -27,11 +27,11 @@ returns-then-high-lt128 c =
       | then-high-lt128-via-else-high-lt128+else-length-lt13+else-length-gt180+then-length-bytes w ↦ omega arith
     ])
 
-pub returns-then-length-in-length : goal.returns-then-length-in-length
-returns-then-length-in-length c = fixed_not c.args.bytes.now (λ f. omega arith)
+pub returns-then-length_in-length : goal.returns-then-length_in-length
+returns-then-length_in-length c = fixed_not c.args.bytes.now (λ f. omega arith)
 
 pub returns : goal.returns
 returns c =
     let fixed : Fixed c.args.bytes.now =
     record { table = omega arith; syntax = omega arith; least = omega arith; most = omega arith; whole = omega arith; first = omega arith; last = omega arith; room = omega arith } in
-    (fixed_from c.args.bytes.now fixed, ap (λ n. n - 1) c.length-in-length.ensures, omega arith)
+    (fixed_from c.args.bytes.now fixed, ap (λ n. n - 1) c.length_in-length.ensures, omega arith)

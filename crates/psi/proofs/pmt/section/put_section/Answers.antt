@@ -15,26 +15,26 @@ returns c =
     let rows = c.args.rows.now in
     let w = written c.args.place.now in
     let n = info_length s in
-    let count : 12 + c.length-in-streams.result - 12 ≡ n = omega (arith, c.length-in-streams.ensures) in
-    let pcr : c.unwrap-or-pcr.result ≡ unwrap_or (out_of rows row.parent (pid_in (byte s 8) (byte s 9))) no_pcr =
-    c.unwrap-or-pcr.ensures ∙ ap (λ o. unwrap_or o no_pcr) (c.out-of.ensures ∙ ap (out_of rows row.parent) c.pid_in.ensures) in
-    let service = c.to-be-bytes.ensures in
-    let before : written c.put-all-3.new.self ≡ ((w ++ (0x02 ∷ byte s 1 ∷ byte s 2 ∷ get_or c.to-be-bytes.result 0 0 ∷ get_or c.to-be-bytes.result 1 0 ∷ byte s 5 ∷ 0x00 ∷ 0x00 ∷ [])) ++ (pid_high (byte s 8) c.unwrap-or-pcr.result ∷ c.unwrap-or-pcr.result % 0x100 ∷ byte s 10 ∷ byte s 11 ∷ [])) ++ take n (drop 12 s) =
-    c.put-all-3.ensures.written
-    ∙ (λ i. (c.put-all-2.ensures.written ∙ (λ j. c.put-all.ensures.written j ++ (c.pid_high.ensures j ∷ low_eight c.unwrap-or-pcr.result j ∷ byte s 10 ∷ byte s 11 ∷ []))) i ++ take (count i) (drop 12 s)) in
-    let streams : take (length s - (12 + c.length-in-streams.result)) (drop (12 + c.length-in-streams.result) s) ≡ stream_part s =
-    take_rest s (12 + c.length-in-streams.result) ∙ ap (λ m. drop (12 + m) s) c.length-in-streams.ensures in
-    let info-long : length (take (12 + c.length-in-streams.result - 12) (drop 12 s)) ≡ n =
+    let count : 12 + c.length_in-streams.result - 12 ≡ n = omega (arith, c.length_in-streams.ensures) in
+    let pcr : c.unwrap_or-pcr.result ≡ unwrap_or (out_of rows row.parent (pid_in (byte s 8) (byte s 9))) no_pcr =
+    c.unwrap_or-pcr.ensures ∙ ap (λ o. unwrap_or o no_pcr) (c.out_of.ensures ∙ ap (out_of rows row.parent) c.pid_in.ensures) in
+    let service = c.to_be_bytes.ensures in
+    let before : written c.put_all-3.new.self ≡ ((w ++ (0x02 ∷ byte s 1 ∷ byte s 2 ∷ get_or c.to_be_bytes.result 0 0 ∷ get_or c.to_be_bytes.result 1 0 ∷ byte s 5 ∷ 0x00 ∷ 0x00 ∷ [])) ++ (pid_high (byte s 8) c.unwrap_or-pcr.result ∷ c.unwrap_or-pcr.result % 0x100 ∷ byte s 10 ∷ byte s 11 ∷ [])) ++ take n (drop 12 s) =
+    c.put_all-3.ensures.written
+    ∙ (λ i. (c.put_all-2.ensures.written ∙ (λ j. c.put_all.ensures.written j ++ (c.pid_high.ensures j ∷ low_eight c.unwrap_or-pcr.result j ∷ byte s 10 ∷ byte s 11 ∷ []))) i ++ take (count i) (drop 12 s)) in
+    let streams : take (length s - (12 + c.length_in-streams.result)) (drop (12 + c.length_in-streams.result) s) ≡ stream_part s =
+    take_rest s (12 + c.length_in-streams.result) ∙ ap (λ m. drop (12 + m) s) c.length_in-streams.ensures in
+    let info-long : length (take (12 + c.length_in-streams.result - 12) (drop 12 s)) ≡ n =
     ap (λ m. length (take m (drop 12 s))) count ∙ length-take-le n (drop 12 s) (simp length-drop (omega (arith, c.requires.0))) in
     let streams-long = ap length streams ∙ length-drop (12 + n) s in
-    let l1 = c.put-all.ensures.len in
-    let l2 = c.put-all-2.ensures.len in
-    let l3 = c.put-all-3.ensures.len in
-    let l4 = c.put-streams.ensures.len in
+    let l1 = c.put_all.ensures.len in
+    let l2 = c.put_all-2.ensures.len in
+    let l3 = c.put_all-3.ensures.len in
+    let l4 = c.put_streams.ensures.len in
     record {
       written =
-          section_from rows row (written c.put-all-3.new.self) (written c.put-streams.new.place) w s c.put-streams.result (streams_of (stream_part s))
-          (subst (λ (l : Bytes). StreamsWritten rows row.parent (written c.put-all-3.new.self) (streams_of l) (written c.put-streams.new.place) c.put-streams.result) streams c.put-streams.ensures.written)
-          (λ es. section_shape rows row w s _ _ _ _ es before (ap (λ (l : Bytes). get_or l 0 0) service) (ap (λ (l : Bytes). get_or l 1 0) service) pcr c.requires.0 (c.type-inv.section 11).fits);
+          section_from rows row (written c.put_all-3.new.self) (written c.put_streams.new.place) w s c.put_streams.result (streams_of (stream_part s))
+          (subst (λ (l : Bytes). StreamsWritten rows row.parent (written c.put_all-3.new.self) (streams_of l) (written c.put_streams.new.place) c.put_streams.result) streams c.put_streams.ensures.written)
+          (λ es. section_shape rows row w s _ _ _ _ es before (ap (λ (l : Bytes). get_or l 0 0) service) (ap (λ (l : Bytes). get_or l 1 0) service) pcr c.requires.0 (c.type_inv.section 11).fits);
       len = (omega (arith, l4.0), omega (arith, l4.1, c.requires.0));
     }

@@ -12,10 +12,10 @@ returns c =
     let w = written c.args.place.now in
     record {
       written =
-          c.put-all-2.ensures.written
-          ∙ (λ i. c.put-all.ensures.written i ++ take_rest s 3 i)
+          c.put_all-2.ensures.written
+          ∙ (λ i. c.put_all.ensures.written i ++ take_rest s 3 i)
           ∙ (λ i. (w ++ (byte s 0 ∷ c.pid_high.ensures i ∷ low_eight c.args.pid i ∷ [])) ++ drop 3 s)
           ∙ append_assoc w _ (drop 3 s)
           ∙ ap (λ (l : Bytes). w ++ l) (with_pid_front s c.args.pid (omega (arith, c.requires.0)));
-      len = c.put-all-2.ensures.len ∙ (let l = c.put-all.ensures.len in simp (take_rest, length-drop) (omega (arith, c.requires.0)));
+      len = c.put_all-2.ensures.len ∙ (let l = c.put_all.ensures.len in simp (take_rest, length-drop) (omega (arith, c.requires.0)));
     }
