@@ -3,11 +3,11 @@ use Rattle.carrier.proofs.Stored.{none_written, housed_none}
 use Rattle.carrier.proofs.Unfolding.{none_pending}
 use Rattle.carrier.proofs.folded.Folded.new.Goals as goal
 
-pub invariant-of-result : goal.invariant-of-result
-invariant-of-result c =
+pub invariant_of-result : goal.invariant_of-result
+invariant_of-result c =
     let s = c.new.result in
     let none = c.new.ensures.used in
-    (ap (λ n. n % 189) none, (sym (ap length (none_pending _ (none_written s none))), (omega arith, tt)))
+    record { whole = ap (λ n. n % 189) none; counted = sym (ap length (none_pending _ (none_written s none))); bounded = omega arith }
 
 pub returns : goal.returns
 returns c =

@@ -10,8 +10,8 @@ pub returns : goal.returns
 returns c =
     let hall = c.args.self.now in
     let cut = hall.cut in
-    let ms = c.deref-mut.result.now in
-    let is-ms = c.deref-mut.ensures.value in
+    let ms = c.deref_mut.result.now in
+    let is-ms = c.deref_mut.ensures.value in
     let ys = c.join.new.slots in
     let m = c.min-cut.result in
     let n = c.len-seats.result in

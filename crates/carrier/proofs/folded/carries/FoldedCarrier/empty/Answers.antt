@@ -3,11 +3,11 @@ use Rattle.carrier.proofs.Stored.{none_written, housed_none}
 use Rattle.carrier.proofs.Unfolding.{none_pending}
 use Rattle.carrier.proofs.folded.carries.FoldedCarrier.empty.Goals as goal
 
-pub invariant-of-self : goal.invariant-of-self
-invariant-of-self c =
+pub invariant_of-self : goal.invariant_of-self
+invariant_of-self c =
     let s = c.clear.new.self in
     let none = c.clear.ensures.used in
-    (ap (λ n. n % 189) none, (sym (ap length (none_pending _ (none_written s none))), (omega arith, tt)))
+    record { whole = ap (λ n. n % 189) none; counted = sym (ap length (none_pending _ (none_written s none))); bounded = omega arith }
 
 pub returns : goal.returns
 returns c =

@@ -24,12 +24,12 @@ returns-then-left-count c =
 pub returns-then-left-count-2 : goal.returns-then-left-count-2
 returns-then-left-count-2 c =
     let found = found_kept (at_fold (goal.at.returns-then-left-count-2 c).In-Some) c.args.place.now (omega arith) in
-    record { test = found.test; after = c.copy-from-slice.ensures.after ∙ found.after }
+    record { test = found.test; after = c.copy_from_slice.ensures.after ∙ found.after }
 
 pub loop-fold-preserved : goal.loop-fold-preserved
 loop-fold-preserved c =
     let step = c.in-Some.ensures.steps in (
-      tt,
+      omega (arith, step.0, c.loop-fold.invariant.3),
       omega arith,
       c.loop-fold.invariant.2,
       omega (arith, step.0, c.loop-fold.invariant.3),

@@ -11,7 +11,7 @@ returns c =
     let s = self.store in
     let t = c.append.new.self in
     let x = c.args.packet.now in
-    let admitted = c.in-ok-admit.ensures in
+    let admitted = c.in_ok-admit.ensures in
     let long = admitted.framed.long in
     let more : t.used ≡ s.used + 188 = c.append.ensures.used ∙ ap (λ n. s.used + n) long in
     record {

@@ -17,14 +17,14 @@ returns-then-i-held c =
     let past : length (cut 188 (written c.args.self.now.store)) ≤ c.args.i = omega arith in
     record { test = sym (le-ltb _ _ past); after = sym (get_or_past _ _ _ past) }
 
-pub overflow-mul-at : goal.overflow-mul-at
-overflow-mul-at c = let s = c.args.self.now.store in omega (arith, within s c.args.i (omega arith), used_small s)
+pub overflow_mul-at : goal.overflow_mul-at
+overflow_mul-at c = let s = c.args.self.now.store in omega (arith, within s c.args.i (omega arith), used_small s)
 
-pub overflow-add-at : goal.overflow-add-at
-overflow-add-at c = let s = c.args.self.now.store in omega (arith, within s c.args.i (omega arith), used_small s)
+pub overflow_add-at : goal.overflow_add-at
+overflow_add-at c = let s = c.args.self.now.store in omega (arith, within s c.args.i (omega arith), used_small s)
 
-pub slice-bounds-copy-from-slice-end-2 : goal.slice-bounds-copy-from-slice-end-2
-slice-bounds-copy-from-slice-end-2 c = let h = within c.args.self.now.store c.args.i (omega arith) in search rules
+pub slice_bounds-copy_from_slice-end-2 : goal.slice_bounds-copy_from_slice-end-2
+slice_bounds-copy_from_slice-end-2 c = let h = within c.args.self.now.store c.args.i (omega arith) in search rules
 
 pub returns : goal.returns
 returns c =
@@ -35,7 +35,7 @@ returns c =
     record {
       test = sym (lt-ltb _ _ held);
       after =
-          c.copy-from-slice.ensures.after
+          c.copy_from_slice.ensures.after
           ∙ (λ j. take ((let e : i * 188 + 188 - i * 188 ≡ 188 = omega arith in e) j) (drop (i * 188) (c.bytes.ensures.value j)))
           ∙ sym (get_or_cut 188 (written s) i _ (omega arith));
     }
