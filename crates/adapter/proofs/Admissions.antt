@@ -5,7 +5,7 @@ use Rattle.memory.specs.Memory.{lines_in, backlog_in, size_in}
 use Rattle.memory.specs.declared.Memory.{Memory}
 use Rattle.rules.proofs.Merging.{Rising, Earliest, rising_rest, lines_start_at, length_merged_first}
 use Rattle.rules.proofs.Placing.{Admitting, admitting_joins, admitting_drops}
-use Rattle.rules.specs.declared.entry.Entry.{Entry}
+use Rattle.rules.specs.Entries.{Entry}
 use Rattle.rules.specs.Entries.{from_on, merged}
 use Rattle.rules.specs.Invariants.{InOrder}
 use Rattle.rules.specs.Slots.{join, pat, use_among}

@@ -1,6 +1,6 @@
 -- Parents that all have an anchor.
 use Rattle.std.proofs.Common.{◌≡◌, ℕ, zero, suc, ◌+◌, ◌<◌, ◌≤◌, max, Bool, true, false, List, [], ◌∷◌, map, length, get_or, Some, None, Option, sym, refl, ap, ◌∙◌, subst, inl, inr, arith}
-use Rattle.rules.specs.declared.entry.Entry.{Entry}
+use Rattle.rules.specs.Entries.{Entry}
 use Rattle.rules.specs.Calls.{let_go, Reach, ShortOf}
 use Rattle.rules.specs.Entries.{from_on}
 use Rattle.rules.specs.State.{Hearing, Parent, latest}

@@ -6,8 +6,8 @@ use Rattle.std.proofs.lemmas.Bool.{cases_eq, cases_lt}
 use Rattle.config.specs.Setup.{Setup}
 use Rattle.psi.proofs.Deliveries.{delivered}
 use Rattle.psi.specs.Packet.{Bytes, Framed}
-use Rattle.rules.specs.declared.entry.Entry.{Entry}
-use Rattle.rules.specs.declared.entry.Frame.{Frame}
+use Rattle.rules.specs.Entries.{Entry}
+use Rattle.rules.specs.Slots.{Frame}
 use Rattle.rules.specs.Calls as calls
 use Rattle.rules.specs.Calls.{InRange, records_from, let_go, admitted}
 use Rattle.rules.specs.Entries.{before, from_on, into, merge, merged}

@@ -7,7 +7,7 @@ use Rattle.memory.specs.Memory.{line_in, lines_in, backlog_in}
 use Rattle.memory.specs.declared.Memory.{Memory}
 use Rattle.psi.specs.Packet.{Bytes, good_packet}
 use Rattle.psi.specs.Delivery.{Delivery, unmapped, unpatchable, deliverable, deliver}
-use Rattle.rules.specs.declared.entry.Entry.{Entry}
+use Rattle.rules.specs.Entries.{Entry}
 use Rattle.rules.specs.Calls.{HearAnswer, passed_over, dropped_it, held_it, refused_hear, Listed, Arrives, Wanted, Hears, unwanted, unpatched, full, holds}
 use Rattle.rules.specs.State.{State, parent_at, line_of, line_room, know}
 use Rattle.rules.specs.Times.{Stamp, Stamps, stamped}

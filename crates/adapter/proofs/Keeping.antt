@@ -6,8 +6,8 @@ use Rattle.config.specs.Setup.{Setup, setup}
 use Rattle.config.specs.declared.table.Config.{Config}
 use Rattle.memory.specs.Memory.{entries_in, size_in, parents_in, room_in, line_in, lines_in, SameShares, OnlyLines}
 use Rattle.memory.specs.declared.Memory.{Memory}
-use Rattle.rules.specs.declared.entry.Entry.{Entry}
-use Rattle.rules.specs.declared.entry.Frame.{Frame}
+use Rattle.rules.specs.Entries.{Entry}
+use Rattle.rules.specs.Slots.{Frame}
 use Rattle.rules.specs.Calls.{RecordAnswer, queued, refused_record, Records, eight, queues, InRange, Follows}
 use Rattle.rules.specs.State.{State, Step, Parent, Roomy, line_room, line_of}
 use Rattle.adapter.specs.Parents.{parent_of}

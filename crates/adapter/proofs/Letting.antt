@@ -5,8 +5,8 @@ use Rattle.std.proofs.lemmas.List.{get_or_default, get_or-set_same, get_or-set_o
 use Rattle.std.proofs.lemmas.Bool.{cases_eq, cases_lt}
 use Rattle.std.specs.Option.{option_to_list}
 use Rattle.waiting.specs.Waiting as waiting
-use Rattle.rules.specs.declared.entry.Entry.{Entry}
-use Rattle.rules.specs.declared.entry.Frame.{Frame}
+use Rattle.rules.specs.Entries.{Entry}
+use Rattle.rules.specs.Slots.{Frame}
 use Rattle.rules.specs.Calls.{records_from}
 use Rattle.rules.specs.Entries.{from_on}
 use Rattle.rules.specs.Times.{Stamp, stamped}

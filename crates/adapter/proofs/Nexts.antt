@@ -3,7 +3,7 @@ use Rattle.std.proofs.Common.{◌≡◌, ℕ, suc, ◌+◌, ◌<◌, ◌≤◌, 
 use Rattle.std.proofs.lemmas.Bool.{cases_lt}
 use Rattle.waiting.specs.Waiting.{oldest}
 use Rattle.rules.proofs.Merging.{NotBefore, NoneBefore, Earliest}
-use Rattle.rules.specs.declared.entry.Entry.{Entry}
+use Rattle.rules.specs.Entries.{Entry}
 use Rattle.adapter.specs.Placing.{first_of, NoneEarlier, First-in, NextIn}
 
 pub none_earlier_more : (m n : ℕ) (ls : List (List Entry)) → NoneEarlier m n ls → ((d : Entry) → first_of ls n ≡ Some d → m ≤ d.arrival) → NoneEarlier m (n + 1) ls

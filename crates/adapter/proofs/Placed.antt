@@ -9,8 +9,8 @@ use Rattle.rules.proofs.Clear.{only_from_clear}
 use Rattle.rules.proofs.Equal.{equal_frames}
 use Rattle.rules.proofs.Placing.{frame_turns_are, lines_placed, rising_started, started}
 use Rattle.rules.proofs.Merging.{Rising}
-use Rattle.rules.specs.declared.entry.Entry.{Entry}
-use Rattle.rules.specs.declared.entry.Frame.{Frame}
+use Rattle.rules.specs.Entries.{Entry}
+use Rattle.rules.specs.Slots.{Frame}
 use Rattle.rules.specs.Calls as calls
 use Rattle.rules.specs.Calls.{FrameAnswer, refused_frame, skipped, Frames, Due, Called, placed, frame_turns, followed_to, doubt_at, let_go, step_after}
 use Rattle.rules.specs.Entries.{from_on, merged}

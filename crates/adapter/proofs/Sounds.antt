@@ -12,9 +12,9 @@ use Rattle.memory.specs.declared.Memory.{Memory}
 use Rattle.rules.proofs.Invariants.{always_sound}
 use Rattle.rules.proofs.Ordered.{Above, Rises}
 use Rattle.rules.proofs.Placing.{LinesRise, lines_rise, started}
-use Rattle.rules.specs.declared.entry.Entry.{Entry}
+use Rattle.rules.specs.Entries.{Entry}
 use Rattle.rules.proofs.Fits.{fits, doubt_begins}
-use Rattle.rules.specs.declared.entry.Frame.{Frame}
+use Rattle.rules.specs.Slots.{Frame}
 use Rattle.rules.specs.Calls.{AllHeard, doubt_at}
 use Rattle.rules.specs.Entries.{from_on, into, merge, merged}
 use Rattle.rules.specs.State.{Hearing, Step, out, following, in_step, parent_at}

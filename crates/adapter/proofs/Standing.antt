@@ -9,8 +9,8 @@ use Rattle.memory.proofs.Shares.{length_lines}
 use Rattle.memory.specs.Memory.{lines_in, line_in}
 use Rattle.memory.specs.declared.Memory.{Memory}
 use Rattle.waiting.specs.Waiting.{oldest}
-use Rattle.rules.specs.declared.entry.Entry.{Entry}
-use Rattle.rules.specs.declared.entry.Frame.{Frame}
+use Rattle.rules.specs.Entries.{Entry}
+use Rattle.rules.specs.Slots.{Frame}
 use Rattle.rules.specs.Calls.{AllHeard, InRange, Silent}
 use Rattle.rules.specs.State.{Hearing, Checked, parent_at}
 use Rattle.adapter.specs.Parents.{parent_of, parents_by, moved, Restarted}

@@ -10,8 +10,8 @@ use Rattle.psi.specs.Packet.{Bytes}
 use Rattle.rules.proofs.Merging.{Rising, from_on_merged, from_on_first, from_on_all, in_order_rises, rising_at, rising_by}
 use Rattle.rules.proofs.Ordered.{Above, Rises, from_on_twice}
 use Rattle.rules.proofs.Placing.{Placing, placing_start, placing_end, rises_from_on, limit_more, limit_last}
-use Rattle.rules.specs.declared.entry.Entry.{Entry}
-use Rattle.rules.specs.declared.entry.Frame.{Frame}
+use Rattle.rules.specs.Entries.{Entry}
+use Rattle.rules.specs.Slots.{Frame}
 use Rattle.rules.specs.Entries.{before, from_on, merged}
 use Rattle.rules.specs.Invariants.{InOrder}
 use Rattle.rules.specs.Slots.{Use, pat, payload, Turn, limit, end_of, joins, drops, leaves, stays, lowered, use_of, played}

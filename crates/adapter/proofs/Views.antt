@@ -3,8 +3,8 @@ use Rattle.std.proofs.Common.{◌≡◌, ℕ, zero, suc, ◌<◌, ◌≤◌, Lis
 use mathlib.Core.Logic.{∥∥₁_map}
 use lib.Seq.{set-get_or}
 use Rattle.config.specs.Setup.{Setup}
-use Rattle.rules.specs.declared.entry.Entry.{Entry}
-use Rattle.rules.specs.declared.entry.Frame.{Frame}
+use Rattle.rules.specs.Entries.{Entry}
+use Rattle.rules.specs.Slots.{Frame}
 use Rattle.rules.specs.Log.{Log, Leads, next, Event, Took}
 use Rattle.rules.specs.State.{State, Step, Parent}
 use Rattle.adapter.specs.Fields.{Reached}

@@ -3,7 +3,7 @@ use Rattle.std.specs.Prelude.{ℕ, List, Option}
 use Rattle.config.specs.Setup.{Setup}
 use Rattle.memory.specs.Memory.{lines_in, backlog_in}
 use Rattle.memory.specs.declared.Memory.{Memory}
-use Rattle.rules.specs.declared.entry.Entry.{Entry}
+use Rattle.rules.specs.Entries.{Entry}
 use Rattle.rules.specs.Log.{Log, Leads}
 use Rattle.rules.specs.State.{State}
 use Rattle.adapter.specs.Parents.{parents_by}

@@ -1,7 +1,7 @@
 -- What becomes of a packet that was taken and has its stamp.
 use Rattle.std.specs.Prelude.{◌≡◌, ℕ, ◌<◌, ◌≤◌, ◌⊎◌, List, [], ◌∷◌, ◌++◌, length}
 use Rattle.psi.specs.Delivery.{Delivery, unmapped, unpatchable, deliverable}
-use Rattle.rules.specs.declared.entry.Entry.{Entry}
+use Rattle.rules.specs.Entries.{Entry}
 use Rattle.rules.specs.Calls.{HearAnswer, passed_over, dropped_it, held_it, refused_hear}
 use Rattle.rules.specs.Times.{Stamp}
 

@@ -1,6 +1,6 @@
 -- Parents as the rules have them, from what is kept of their times and what waits in their lines.
 use Rattle.std.specs.Prelude.{◌≡◌, ℕ, zero, suc, ◌<◌, ◌≤◌, max, Bool, true, false, List, [], ◌∷◌, length, Some, None, Option, ◌≢◌, slice_index_or}
-use Rattle.rules.specs.declared.entry.Entry.{Entry}
+use Rattle.rules.specs.Entries.{Entry}
 use Rattle.rules.specs.State.{Hearing, Parent}
 use Rattle.rules.specs.Times.{Stamp, stamped, Stamps, Untimely}
 use Rattle.adapter.specs.declared.times.Times.{Times}

@@ -6,8 +6,8 @@ use Rattle.memory.specs.declared.Memory.{Memory}
 use Rattle.waiting.specs.Waiting.{oldest}
 use Rattle.carrier.specs.Meaning.{Meaning, Carried}
 use Rattle.psi.specs.Packet.{Bytes, byte}
-use Rattle.rules.specs.declared.entry.Entry.{Entry}
-use Rattle.rules.specs.declared.entry.Frame.{Frame}
+use Rattle.rules.specs.Entries.{Entry}
+use Rattle.rules.specs.Slots.{Frame}
 use Rattle.rules.specs.Entries.{before, from_on, merged}
 use Rattle.rules.specs.Invariants.{InOrder}
 use Rattle.rules.specs.Slots.{Use, pat, payload, Turn, join, joins, drops, stays, lowered, use_of, end_of, turns_from, played, waiting, dropped, doubt, reaches_zero}

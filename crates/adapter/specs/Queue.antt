@@ -1,7 +1,7 @@
 -- The framing records that wait.
 use Rattle.std.specs.Prelude.{List}
 use Rattle.waiting.specs.Waiting.{waits}
-use Rattle.rules.specs.declared.entry.Frame.{Frame}
+use Rattle.rules.specs.Slots.{Frame}
 use Rattle.adapter.specs.declared.records.Records.{Records}
 
 -- the oldest first

@@ -5,7 +5,7 @@ use Rattle.memory.specs.Memory.{entries_in, lines_in}
 use Rattle.rules.specs.Slots.{end_of}
 use Rattle.rules.specs.State.{Hearing, State, Roomy, parents_of, latest}
 use Rattle.rules.specs.Calls.{Called, Due as Placeable, Silent, ShortOf}
-use Rattle.rules.specs.declared.entry.Frame.{Frame}
+use Rattle.rules.specs.Slots.{Frame}
 use Rattle.adapter.specs.Answers.{number_of}
 use Rattle.adapter.specs.Fields.{state_from}
 use Rattle.adapter.specs.Parents.{hearings}

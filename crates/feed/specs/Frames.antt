@@ -1,6 +1,6 @@
 -- The framing records of a run.
 use Rattle.std.specs.Prelude.{ℕ, ◌+◌, ◌*◌, ◌^◌, cond, ◌&&◌, Some, None, Option, nat_le, nat_lt}
-use Rattle.rules.specs.declared.entry.Frame.{Frame}
+use Rattle.rules.specs.Slots.{Frame}
 use Rattle.rules.specs.Times.{latest_time}
 use Rattle.feed.specs.declared.plan.Plan.{Plan}
 

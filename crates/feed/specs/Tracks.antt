@@ -1,6 +1,6 @@
 -- What is known of a parent from its packets that were taken.
 use Rattle.std.specs.Prelude.{◌≡◌, ℕ, ◌+◌, ◌^◌, ◌<◌, List, Some, None, Option}
-use Rattle.rules.specs.declared.entry.Entry.{Entry}
+use Rattle.rules.specs.Entries.{Entry}
 use Rattle.rules.specs.State.{Parent}
 use Rattle.rules.specs.Times.{after, Stamp, Stamps, stamped}
 use Rattle.feed.specs.Times.{capped}

@@ -1,6 +1,6 @@
 // When a packet arrives, by the time that it is handed with or by the packets since its parent's anchor.
 ghost use Rattle.std.specs.Prelude.{◌≡◌, ℕ, ◌<◌, ◌≤◌, List, Some, None, nat_lt};
-ghost use Rattle.rules.specs.declared.entry.Entry.{Entry};
+ghost use Rattle.rules.specs.Entries.{Entry};
 ghost use Rattle.rules.specs.Times.{after};
 ghost use Rattle.adapter.specs.Parents.{stamp_of, parent_of, StampedSo};
 

@@ -1,7 +1,7 @@
 use Rattle.std.proofs.Common.{◌≡◌, List, [], ◌∷◌, map, sym, refl, ap, ◌∙◌, subst}
 use Rattle.config.specs.Setup.{setup}
 use Rattle.memory.specs.Memory.{lines_in}
-use Rattle.rules.specs.declared.entry.Entry.{Entry}
+use Rattle.rules.specs.Entries.{Entry}
 use Rattle.rules.specs.Calls.{doubt_at}
 use Rattle.adapter.specs.Placing.{begun}
 use Rattle.adapter.specs.Steps.{step_of}

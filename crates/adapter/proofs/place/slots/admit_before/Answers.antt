@@ -3,7 +3,7 @@ use Rattle.memory.specs.Memory.{lines_in, line_in}
 use Rattle.rules.proofs.Merging.{rising_by, in_order_rises, length_merged_first}
 use Rattle.rules.proofs.Placing.{admitting_start, admitting_end, settled, lines_after}
 use Rattle.rules.specs.Entries.{merged}
-use Rattle.rules.specs.declared.entry.Entry.{Entry}
+use Rattle.rules.specs.Entries.{Entry}
 use Rattle.adapter.specs.Placing.{AdmittedOne}
 use Rattle.adapter.proofs.Admissions.{admit_step, rises_on, later_stay, one_fewer, drops_fit}
 use Rattle.adapter.proofs.Keeping.{same_then, unchanged}

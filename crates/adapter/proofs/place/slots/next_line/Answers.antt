@@ -2,7 +2,7 @@ use Rattle.std.proofs.Common.{◌≡◌, ℕ, ◌+◌, List, length, Option, sym
 use Rattle.std.specs.Option.{option_map}
 use Rattle.memory.proofs.Shares.{length_lines}
 use Rattle.memory.specs.Memory.{lines_in, line_in}
-use Rattle.rules.specs.declared.entry.Entry.{Entry}
+use Rattle.rules.specs.Entries.{Entry}
 use Rattle.adapter.proofs.Nexts.{Best, best_empty, best_stays, best_changes, best_end}
 use Rattle.adapter.proofs.place.slots.next_line.Goals as goal
 use Rattle.adapter.proofs.place.slots.next_line.Goals.{in-Some+then-entry-bound, in-Some+else-entry-bound, in-default}

@@ -1,6 +1,6 @@
 use Rattle.std.proofs.Common.{◌≡◌, ℕ, ◌+◌, ◌<◌, ◌≤◌, true, false, List, ◌∷◌, length, Some, sym, refl, ap, ◌∙◌, subst, arith}
 use Rattle.memory.specs.Memory.{lines_in}
-use Rattle.rules.specs.declared.entry.Frame.{Frame}
+use Rattle.rules.specs.Slots.{Frame}
 use Rattle.rules.specs.Calls.{Called, Due}
 use Rattle.rules.specs.Slots.{end_of}
 use Rattle.rules.specs.State.{latest}

@@ -1,5 +1,5 @@
 use Rattle.std.proofs.Common.{◌≡◌, ℕ, zero, suc, ◌-◌, ◌/◌, ◌≤◌, min, List, [], ◌∷◌, length, get_or, replicate, None, vec_items, vec_len, Option, sym, refl, ap, ◌∙◌, subst, arith}
-use Rattle.rules.specs.declared.entry.Entry.{Entry}
+use Rattle.rules.specs.Entries.{Entry}
 use Rattle.config.specs.Setup.{setup}
 use Rattle.memory.specs.Memory.{entries_in, size_in, parents_in, room_in, line_in, lines_in}
 use Rattle.rules.specs.Log.{Log, Leads, begins}

@@ -1,6 +1,6 @@
 use Rattle.std.proofs.Common.{◌≡◌, cond, is_ok, refl, ap, ◌∙◌}
 use Rattle.rules.specs.Calls.{starts, anew, queued, refused_record}
-use Rattle.rules.specs.declared.entry.Frame.{Frame}
+use Rattle.rules.specs.Slots.{Frame}
 use Rattle.rules.specs.Log.{recorded}
 use Rattle.adapter.specs.Parents.{parents_by}
 use Rattle.adapter.specs.View.{view, setup_of, entries_of}

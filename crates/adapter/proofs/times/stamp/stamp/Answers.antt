@@ -1,5 +1,5 @@
 use Rattle.std.proofs.Common.{◌≡◌, ℕ, List, Some, None, Option, sym, subst}
-use Rattle.rules.specs.declared.entry.Entry.{Entry}
+use Rattle.rules.specs.Entries.{Entry}
 use Rattle.adapter.specs.Parents.{parent_of, StampedSo}
 use Rattle.adapter.specs.declared.times.Times.{Times}
 use Rattle.adapter.specs.declared.times.stamp.Stamped.{Stamped}
