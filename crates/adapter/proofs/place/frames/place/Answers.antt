@@ -11,8 +11,8 @@ pub loop-slot-init : goal.loop-slot-init
 loop-slot-init g c =
     going_start g.C.Carrier.meaning (setup c.args.config.now) c.args.frame.now c.args.doubt c.args.adding c.args.memory.now _ c.requires.2 c.requires.4.0 c.requires.4.1 c.requires.6
 
-pub admit-before-admitted-requires : goal.admit-before-admitted-requires
-admit-before-admitted-requires g c =
+pub admit_before-admitted-requires : goal.admit_before-admitted-requires
+admit_before-admitted-requires g c =
     let h = c.loop-slot.invariant in (
       ap length c.rates.ensures ∙ omega (arith, c.args.config.now.rates.ok.0, c.requires.0, h.shares.parents),
       c.backlog.ensures ∙ sym (h.shares.size ∙ c.requires.1),
@@ -25,7 +25,7 @@ admit-before-admitted-requires g c =
 pub fill-course-requires : goal.fill-course-requires
 fill-course-requires g c =
     let h = c.loop-slot.invariant in
-    let a = c.admit-before-admitted.ensures in (
+    let a = c.admit_before-admitted.ensures in (
       subst AllWhole (sym a.backlog) (whole_joins (size_in c.loop-slot.memory) (backlog_in c.loop-slot.memory) _ h.whole_backlog (whole_before _ _ h.whole_lines)),
       (λ adding. has_place g.C.Carrier.meaning c.args.adding h.put _ _ adding h.goes (omega (arith, h.many, c.requires.7 adding))),
     )
@@ -33,7 +33,7 @@ fill-course-requires g c =
 pub loop-slot-preserved : goal.loop-slot-preserved
 loop-slot-preserved g c =
     let h = c.loop-slot.invariant in
-    let admitted = subst (λ lim. Admitted lim c.loop-slot.memory c.admit-before-admitted.new.memory c.loop-slot.course c.admit-before-admitted.result) c.limit-of-limit.ensures c.admit-before-admitted.ensures in
+    let admitted = subst (λ lim. Admitted lim c.loop-slot.memory c.admit_before-admitted.new.memory c.loop-slot.course c.admit_before-admitted.result) c.limit_of-limit.ensures c.admit_before-admitted.ensures in
     going_more g.C.Carrier.meaning (setup c.args.config.now) c.args.frame.now c.args.doubt c.args.adding c.args.memory.now c.loop-slot.memory _ _ _ _ _ c.loop-slot.course _ _ c.loop-slot.slot
     c.requires.1 (omega arith) h admitted c.fill-course.ensures.filled c.fill-course.ensures.goes
 

@@ -22,12 +22,12 @@ loop-p-init c =
     )
 
 -- the entry that is admitted, and what is left of its line
-line : (c : goal.After-admit-one-course) → (rest : List Entry) × (get_or (lines_in c.loop-p.memory) c.in-Some.p [] ≡ c.in-Some.ensures.0 ∷ rest)
+line : (c : goal.After-admit_one-course) → (rest : List Entry) × (get_or (lines_in c.loop-p.memory) c.in-Some.p [] ≡ c.in-Some.ensures.0 ∷ rest)
 line c = front (get_or (lines_in c.loop-p.memory) c.in-Some.p []) c.in-Some.ensures.0 c.in-Some.ensures.1.first
 
-one : (c : goal.After-admit-one-course) → AdmittedOne c.in-Some.p c.in-Some.ensures.0 (line c).0 c.loop-p.memory c.admit-one-course.new.memory c.loop-p.course c.admit-one-course.result
+one : (c : goal.After-admit_one-course) → AdmittedOne c.in-Some.p c.in-Some.ensures.0 (line c).0 c.loop-p.memory c.admit_one-course.new.memory c.loop-p.course c.admit_one-course.result
 unfolding line_in
-one c = c.admit-one-course.ensures.one c.in-Some.ensures.0 (line c).0 (line c).1
+one c = c.admit_one-course.ensures.one c.in-Some.ensures.0 (line c).0 (line c).1
 
 pub loop-p-smaller : goal.loop-p-smaller
 loop-p-smaller c =
@@ -45,13 +45,13 @@ loop-p-preserved c =
       later_stay c.args.limit _ _ _ _ _ _ _ i.1 first l.1 o ∙ i.2,
       omega (arith, drops_fit c.args.limit _ _ _ _ _ _ _ i.1 first l.1 o, i.3),
       o.zero ∙ i.4,
-      same_then _ _ _ i.5 c.admit-one-course.ensures.shares,
+      same_then _ _ _ i.5 c.admit_one-course.ensures.shares,
     )
 
 pub returns : goal.returns
 returns c =
     let i = c.loop-p.invariant in
-    let none = none_before c.args.limit _ (lines_in c.loop-p.memory) c.in-default.ensures in
+    let none = none_before c.args.limit _ (lines_in c.loop-p.memory) c.in_default.ensures in
     let all = admitting_end _ _ _ _ _ _ _ _ _ _ i.0 (settled c.args.limit (lines_in c.loop-p.memory) i.1 none) in
     record {
       lines = lines_after c.args.limit (lines_in c.args.memory.now) (lines_in c.loop-p.memory) i.2 none;
@@ -63,8 +63,8 @@ returns c =
       fits = i.3;
     }
 
-pub admit-one-course-requires : goal.admit-one-course-requires
-admit-one-course-requires c =
+pub admit_one-course-requires : goal.admit_one-course-requires
+admit_one-course-requires c =
     let i = c.loop-p.invariant in
     let ls = lines_in c.loop-p.memory in
     let first = c.in-Some.ensures.1 in

@@ -4,8 +4,8 @@ use Rattle.adapter.specs.Placing.{copy_of}
 use Rattle.adapter.proofs.Admissions.{use_no, use_yes}
 use Rattle.adapter.proofs.place.slots.copy_at.Goals as goal
 
-pub overflow-mul-from : goal.overflow-mul-from
-overflow-mul-from c =
+pub overflow_mul-from : goal.overflow_mul-from
+overflow_mul-from c =
     let a : c.from.result ≤ 4294967295 = omega (arith, c.loop-i.invariant.1, c.copies-copies.type-inv) in
     let b : c.from-in-loop-i.result ≤ 4294967295 = omega arith in
     omega (arith, mul-le-mul a b)

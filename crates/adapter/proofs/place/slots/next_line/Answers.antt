@@ -5,7 +5,7 @@ use Rattle.memory.specs.Memory.{lines_in, line_in}
 use Rattle.rules.specs.Entries.{Entry}
 use Rattle.adapter.proofs.Nexts.{Best, best_empty, best_stays, best_changes, best_end}
 use Rattle.adapter.proofs.place.slots.next_line.Goals as goal
-use Rattle.adapter.proofs.place.slots.next_line.Goals.{in-Some+then-entry-bound, in-Some+else-entry-bound, in-default}
+use Rattle.adapter.proofs.place.slots.next_line.Goals.{in-Some+then-entry-bound, in-Some+else-entry-bound, in_default}
 
 same : (limit n : ℕ) (ls : List (List Entry)) {b b' : ℕ} {o o' : Option ℕ} → b' ≡ b → o' ≡ o → Best limit n ls b o → Best limit n ls b' o'
 same limit n ls {b = b} {b' = b'} {o = o} {o' = o'} eb eo h = subst (λ y. Best limit n ls y o') (sym eb) (subst (λ y. Best limit n ls b y) (sym eo) h)
@@ -21,9 +21,9 @@ loop-p-preserved c =
       | in-Some+else-entry-bound w ↦
           same c.args.limit (c.loop-p.p + 1) ls w.bound-is w.next_is
           (best_stays c.args.limit c.loop-p.p ls c.loop-p.bound c.loop-p.next w.in-Some.entry.now c.loop-p.invariant (sym c.first.ensures ∙ ap (option_map (λ y. y.now)) w.in-Some.is) w.if-entry-bound.false)
-      | in-default w ↦
+      | in_default w ↦
           same c.args.limit (c.loop-p.p + 1) ls w.bound-is w.next_is
-          (best_empty c.args.limit c.loop-p.p ls c.loop-p.bound c.loop-p.next c.loop-p.invariant (sym c.first.ensures ∙ ap (option_map (λ y. y.now)) w.in-default.is))
+          (best_empty c.args.limit c.loop-p.p ls c.loop-p.bound c.loop-p.next c.loop-p.invariant (sym c.first.ensures ∙ ap (option_map (λ y. y.now)) w.in_default.is))
     ]
 
 pub returns : goal.returns

@@ -6,4 +6,4 @@ use Rattle.adapter.proofs.records.Records.let_go_before.Goals as goal
 
 pub returns : goal.returns
 unfolding waiting_in
-returns c = record { waits = c.let-go-before.ensures.after ∙ frames_from c.args.since (waits c.args.self.now.line c.args.self.now.frames); last = refl }
+returns c = record { waits = c.let_go_before.ensures.after ∙ frames_from c.args.since (waits c.args.self.now.line c.args.self.now.frames); last = refl }

@@ -3,9 +3,9 @@ use Rattle.waiting.specs.Waiting.{waits}
 use Rattle.adapter.specs.Queue.{waiting_in}
 use Rattle.adapter.proofs.records.Records.queue.Goals as goal
 
-pub returns-then-is-ok : goal.returns-then-is-ok
+pub returns-then-is_ok : goal.returns-then-is_ok
 unfolding waiting_in
-returns-then-is-ok c =
+returns-then-is_ok c =
     let places : length c.args.self.now.frames ≡ 8 = omega arith in
     let ok : is_ok c.join-joined.result ≡ true = cc in
     record {
@@ -14,9 +14,9 @@ returns-then-is-ok c =
       last = ap (λ b. cond b (Some c.args.frame) c.args.self.now.last) (sym ok);
     }
 
-pub returns-else-is-ok : goal.returns-else-is-ok
+pub returns-else-is_ok : goal.returns-else-is_ok
 unfolding waiting_in
-returns-else-is-ok c =
+returns-else-is_ok c =
     let places : length c.args.self.now.frames ≡ 8 = omega arith in
     let no : is_ok c.join-joined.result ≡ false = cc in
     record {

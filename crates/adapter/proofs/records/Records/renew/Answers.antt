@@ -7,12 +7,12 @@ use Rattle.adapter.proofs.records.Records.renew.Goals as goal
 pub returns : goal.returns
 unfolding waiting_in
 returns c =
-    let none : waits c.let-all-go.new.self c.args.self.now.frames ≡ [] = c.let-all-go.ensures _ in
+    let none : waits c.let_all_go.new.self c.args.self.now.frames ≡ [] = c.let_all_go.ensures _ in
     let places : length c.args.self.now.frames ≡ 8 = omega arith in
     let free : is_ok c.join.result ≡ true = c.join.ensures.test ∙ lt-ltb _ _ (omega (arith, ap length none)) in
     record {
       waits =
-          c.join.ensures.after ∙ ap (λ b. cond b (waits c.let-all-go.new.self c.args.self.now.frames ++ c.args.frame ∷ []) (waits c.let-all-go.new.self c.args.self.now.frames)) free
+          c.join.ensures.after ∙ ap (λ b. cond b (waits c.let_all_go.new.self c.args.self.now.frames ++ c.args.frame ∷ []) (waits c.let_all_go.new.self c.args.self.now.frames)) free
           ∙ ap (λ w. w ++ c.args.frame ∷ []) none;
       last = refl;
     }

@@ -17,12 +17,12 @@ first c = waits_first _ c.in-Some.frame (sym c.oldest.ensures ∙ c.in-Some.is)
 many : (c : After-latest) → length c.rates-parents.result.now ≡ length (lines_in c.args.self.now.memory)
 many c = ap length c.rates-parents.ensures ∙ sym (line_count c.args.self.now)
 
-pub returns-in-default-latest : goal.returns-in-default-latest
-returns-in-default-latest c =
-    let d = (goal.at.returns-in-default-latest c).After-latest in
-    let so = c.in-default-latest.ensures in
+pub returns-in_default-latest : goal.returns-in_default-latest
+returns-in_default-latest c =
+    let d = (goal.at.returns-in_default-latest c).After-latest in
+    let so = c.in_default-latest.ensures in
     let n = many d in
-    silent (c.is-roomy.ensures.0 c.if-not-is-roomy.false) c.in-Some.frame (first d).0 (first d).1 (silent_one c.args.self.now so.0 (omega (arith, so.1)) so.2) refl
+    silent (c.is_roomy.ensures.0 c.if-not-is_roomy.false) c.in-Some.frame (first d).0 (first d).1 (silent_one c.args.self.now so.0 (omega (arith, so.1)) so.2) refl
 
 -- every parent has an anchor
 anchored : (d : After-latest) (since : ℕ) → LatestSo d.args.self.now.heard (length d.rates-parents.result.now) (Some since)
@@ -37,7 +37,7 @@ called : (d : After-latest) (since : ℕ) → LatestSo d.args.self.now.heard (le
 called d since so =
     let a = d.args.self.now in
     record {
-      roomy = d.is-roomy.ensures.0 d.if-not-is-roomy.false;
+      roomy = d.is_roomy.ensures.0 d.if-not-is_roomy.false;
       oldest = (first d).1;
       anchored = all_heard a.heard (lines_in a.memory) (places_suffice a) (anchored d since so).0;
     }
@@ -56,18 +56,18 @@ returns-then-frame-since c =
       is = is;
     }
 
-pub overflow-add-end : goal.overflow-add-end
-overflow-add-end c =
-    let d = (goal.at.overflow-add-end c).After-latest in
+pub overflow_add-end : goal.overflow_add-end
+overflow_add-end c =
+    let d = (goal.at.overflow_add-end c).After-latest in
     omega (arith, start_low c.args.self.now c.in-Some.frame (first d).0 (first d).1, c.ticks.ensures, c.from.ensures, c.args.self.now.config.settings.0)
 
-pub returns-then-not-heard-until : goal.returns-then-not-heard-until
-returns-then-not-heard-until c =
+pub returns-then-not-heard_until : goal.returns-then-not-heard_until
+returns-then-not-heard_until c =
     let a = c.args.self.now in
-    let d = (goal.at.returns-then-not-heard-until c).After-latest in
+    let d = (goal.at.returns-then-not-heard_until c).After-latest in
     let so = c.in-Some-latest.ensures in
     let is = (anchored d c.in-Some-latest.since so).1 in
-    let one = subst (HeardSo (c.in-Some.frame.start + c.from.result) a.heard (length c.rates-parents.result.now)) c.if-not-heard-until.true c.heard-until.ensures in
+    let one = subst (HeardSo (c.in-Some.frame.start + c.from.result) a.heard (length c.rates-parents.result.now)) c.if-not-heard_until.true c.heard_until.ensures in
     let end : c.in-Some.frame.start + c.from.result ≡ end_of (setup_of a) c.in-Some.frame = ap (λ t. c.in-Some.frame.start + t) (c.from.ensures ∙ c.ticks.ensures) in
     unheard c.in-Some.frame (first d).0 (called d c.in-Some-latest.since so) (omega (arith, is))
     (short_heard (end_of (setup_of a) c.in-Some.frame) a.heard (lines_in a.memory) one.0 one.1 (omega (arith, one.2, many d)) one.3 (subst (λ e. one.1.heard_to < e) end one.4))
@@ -79,7 +79,7 @@ returns c =
     let d = (goal.at.returns c).After-latest in
     let so = c.in-Some-latest.ensures in
     let is = (anchored d c.in-Some-latest.since so).1 in
-    let all = subst (HeardSo (c.in-Some.frame.start + c.from.result) a.heard (length c.rates-parents.result.now)) c.if-not-heard-until.false c.heard-until.ensures in
+    let all = subst (HeardSo (c.in-Some.frame.start + c.from.result) a.heard (length c.rates-parents.result.now)) c.if-not-heard_until.false c.heard_until.ensures in
     let end : c.in-Some.frame.start + c.from.result ≡ end_of (setup_of a) c.in-Some.frame = ap (λ t. c.in-Some.frame.start + t) (c.from.ensures ∙ c.ticks.ensures) in
     record {
       rest = (first d).0;

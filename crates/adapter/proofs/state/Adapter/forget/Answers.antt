@@ -17,24 +17,24 @@ listed c =
     let low : c.args.parent < length (vec_items c.args.self.now.config.rates) = c.requires.listed in
     omega (arith, c.args.self.now.config.parents.0, c.args.self.now.places)
 
-lines : (c : After-after-self) → lines_in c.empty-backlog.new.self ≡ set (lines_in c.args.self.now.memory) c.args.parent []
-lines c = c.empty-backlog.ensures.rest.lines ∙ c.clear.ensures.lines
+lines : (c : After-after-self) → lines_in c.empty_backlog.new.self ≡ set (lines_in c.args.self.now.memory) c.args.parent []
+lines c = c.empty_backlog.ensures.rest.lines ∙ c.clear.ensures.lines
 
-shares : (c : After-after-self) → SameShares c.args.self.now.memory c.empty-backlog.new.self
-shares c = same_then _ _ _ c.clear.ensures.rest.shares c.empty-backlog.ensures.rest.shares
+shares : (c : After-after-self) → SameShares c.args.self.now.memory c.empty_backlog.new.self
+shares c = same_then _ _ _ c.clear.ensures.rest.shares c.empty_backlog.ensures.rest.shares
 
 -- the state that is left
 left : (c : After-after-self)
-    → state_from c.empty-backlog.new.self (set c.args.self.now.heard c.args.parent None) c.args.self.now.records c.after-self.result
+    → state_from c.empty_backlog.new.self (set c.args.self.now.heard c.args.parent None) c.args.self.now.records c.after-self.result
     ≡ lose c.args.parent (view c.args.self.now)
 left c =
     state-≡
     (ap (parents_by (set c.args.self.now.heard c.args.parent None)) (lines c)
     ∙ parents_set c.args.self.now.heard (lines_in c.args.self.now.memory) c.args.parent None [])
-    refl refl c.empty-backlog.ensures.backlog c.after-self.ensures
+    refl refl c.empty_backlog.ensures.backlog c.after-self.ensures
 
-pub invariant-of-self : goal.invariant-of-self
-invariant-of-self c =
+pub invariant_of-self : goal.invariant_of-self
+invariant_of-self c =
     let a = c.args.self.now in
     let low : c.args.parent < length (vec_items a.config.rates) = c.requires.listed in
     let shared = still_shared a.config _ _ (shares c) (a.parents, a.size, a.room) in (

@@ -31,14 +31,14 @@ pub returns-then-adding-2 : goal.returns-then-adding-2
 returns-then-adding-2 g c =
     let a = c.args.self.now in
     let adds = sym c.adds-adding.ensures ∙ c.if-adding-2.true in
-    let rule = subst (λ b. Frames (setup_of a) (entries_of a) (view a) (g.C.Carrier.meaning c.args.carrier.now) (placed_answer b c.place-now-number.result.0 c.place-now-number.result.1) (view c.place-now-number.new.self) (g.C.Carrier.meaning c.place-now-number.new.carrier)) adds
-    c.place-now-number.ensures.rule in
-    record { rule = rule; same = c.place-now-number.ensures.same; untouched = tt; clear = clear_holds a _ _ _ _ rule; equal = equal_holds a _ _ _ _ rule }
+    let rule = subst (λ b. Frames (setup_of a) (entries_of a) (view a) (g.C.Carrier.meaning c.args.carrier.now) (placed_answer b c.place_now-number.result.0 c.place_now-number.result.1) (view c.place_now-number.new.self) (g.C.Carrier.meaning c.place_now-number.new.carrier)) adds
+    c.place_now-number.ensures.rule in
+    record { rule = rule; same = c.place_now-number.ensures.same; untouched = tt; clear = clear_holds a _ _ _ _ rule; equal = equal_holds a _ _ _ _ rule }
 
 pub returns-else-adding-2 : goal.returns-else-adding-2
 returns-else-adding-2 g c =
     let a = c.args.self.now in
     let adds = sym c.adds-adding.ensures ∙ c.if-adding-2.false in
-    let rule = subst (λ b. Frames (setup_of a) (entries_of a) (view a) (g.C.Carrier.meaning c.args.carrier.now) (placed_answer b c.place-now-number.result.0 c.place-now-number.result.1) (view c.place-now-number.new.self) (g.C.Carrier.meaning c.place-now-number.new.carrier)) adds
-    c.place-now-number.ensures.rule in
-    record { rule = rule; same = c.place-now-number.ensures.same; untouched = c.place-now-number.ensures.kept adds; clear = clear_holds a _ _ _ _ rule; equal = equal_holds a _ _ _ _ rule }
+    let rule = subst (λ b. Frames (setup_of a) (entries_of a) (view a) (g.C.Carrier.meaning c.args.carrier.now) (placed_answer b c.place_now-number.result.0 c.place_now-number.result.1) (view c.place_now-number.new.self) (g.C.Carrier.meaning c.place_now-number.new.carrier)) adds
+    c.place_now-number.ensures.rule in
+    record { rule = rule; same = c.place_now-number.ensures.same; untouched = c.place_now-number.ensures.kept adds; clear = clear_holds a _ _ _ _ rule; equal = equal_holds a _ _ _ _ rule }

@@ -19,14 +19,14 @@ use Rattle.adapter.proofs.state.Adapter.hear.Goals as goal
 use Rattle.adapter.proofs.state.Adapter.hear.Goals.{After-stamp, After-keep}
 
 good : (c : After-stamp) → Good (setup_of c.args.self.now) (entries_of c.args.self.now) c.args.parent c.args.packet.now
-good c = record { known = c.in-ok-listed.ensures; good = (delivered_good _ _ _ c.in-Ok.ensures.value).0 }
+good c = record { known = c.in_ok-listed.ensures; good = (delivered_good _ _ _ c.in-Ok.ensures.value).0 }
 
 pub returns-in-Unanchored : goal.returns-in-Unanchored
 returns-in-Unanchored c =
     let a = c.args.self.now in
     let so = c.in-Unanchored.ensures (line_in a.memory c.args.parent) in
     record {
-      rule = unanchored (good (goal.at.returns-in-Unanchored c).After-stamp) (parent_is a c.args.parent c.in-ok-listed.ensures c.index-self-parent.result ∙ so.0) so.1 refl refl;
+      rule = unanchored (good (goal.at.returns-in-Unanchored c).After-stamp) (parent_is a c.args.parent c.in_ok-listed.ensures c.index-self-parent.result ∙ so.0) so.1 refl refl;
       same = record { config = refl; entries = refl };
     }
 
@@ -37,23 +37,23 @@ returns-in-Untimely c =
     record {
       rule =
           untimely (good (goal.at.returns-in-Untimely c).After-stamp)
-          (subst (λ P. Untimely P c.args.time) (sym (parent_is a c.args.parent c.in-ok-listed.ensures c.index-self-parent.result)) so)
+          (subst (λ P. Untimely P c.args.time) (sym (parent_is a c.args.parent c.in_ok-listed.ensures c.index-self-parent.result)) so)
           refl c.forget-in-Untimely.ensures.after;
       same = c.forget-in-Untimely.ensures.same;
     }
 
 arrives : (c : After-keep) → Arrives (setup_of c.args.self.now) (entries_of c.args.self.now) (view c.args.self.now) c.args.parent c.args.packet.now c.args.time (stamp_of c.in-Taken.times)
 arrives c =
-    arrives_by c.args.self.now c.args.parent c.in-ok-listed.ensures c.args.packet.now c.args.time c.index-self-parent.result c.rates.result.now c.in-Taken.times
+    arrives_by c.args.self.now c.args.parent c.in_ok-listed.ensures c.args.packet.now c.args.time c.index-self-parent.result c.rates.result.now c.in-Taken.times
     (delivered_good _ _ _ c.in-Ok.ensures.value).0 c.rates.ensures c.in-Taken.ensures
 
 maps : (c : After-keep) → meant c.in-Ok.delivered ≡ deliver (setup_of c.args.self.now) c.args.parent c.args.packet.now
 maps c = (delivered_good _ _ _ c.in-Ok.ensures.value).1
 
-pub invariant-of-self : goal.invariant-of-self
-invariant-of-self c =
+pub invariant_of-self : goal.invariant_of-self
+invariant_of-self c =
     let a = c.args.self.now in
-    let listed = c.in-ok-listed.ensures in
+    let listed = c.in_ok-listed.ensures in
     let m = c.keep.new.memory in
     let rest = c.keep.ensures.rest in
     let stays = full_stays _ c.in-err-heard.ensures.rule in
@@ -81,7 +81,7 @@ invariant-of-self c =
 pub returns-in-err-heard : goal.returns-in-err-heard
 returns-in-err-heard c =
     let a = c.args.self.now in
-    let listed = c.in-ok-listed.ensures in
+    let listed = c.in_ok-listed.ensures in
     let m = c.keep.new.memory in
     let k = (goal.at.returns-in-err-heard c).After-keep in
     let rest = c.keep.ensures.rest in
@@ -102,14 +102,14 @@ rule : (c : After-keep) (h : Heard)
     (state_from c.keep.new.memory (set c.args.self.now.heard c.args.parent (Some c.in-Taken.times)) c.args.self.now.records c.args.self.now.step)
 rule c h keeps =
     let a = c.args.self.now in
-    let listed = c.in-ok-listed.ensures in
+    let listed = c.in_ok-listed.ensures in
     heard_taken _ _ _ _ _ _ _ _ _ _ _ (arrives c) (maps c) a.room (line_is a c.args.parent listed) h _ keeps
     (known_by a c.args.parent listed c.keep.new.memory c.in-Taken.times c.keep.ensures.lines c.keep.ensures.rest.backlog)
 
-pub invariant-of-self-in-Taken : goal.invariant-of-self-in-Taken
-invariant-of-self-in-Taken c =
+pub invariant_of-self-in-Taken : goal.invariant_of-self-in-Taken
+invariant_of-self-in-Taken c =
     let a = c.args.self.now in
-    let k = (goal.at.invariant-of-self-in-Taken c).After-keep in
+    let k = (goal.at.invariant_of-self-in-Taken c).After-keep in
     let rest = c.keep.ensures.rest in
     let shared = still_shared a.config _ _ rest.shares (a.parents, a.size, a.room) in (
       length-set a.heard c.args.parent (Some c.in-Taken.times) ∙ a.places,
@@ -120,7 +120,7 @@ invariant-of-self-in-Taken c =
           (
             shared.2,
             (
-              quiet_set a.heard a.memory _ c.args.parent (Some c.in-Taken.times) _ (has_place a c.args.parent c.in-ok-listed.ensures) c.keep.ensures.lines (λ e. let z : ◌≡◌ {A = ℕ} 0 1 = cc in absurd (omega arith)) a.quiet,
+              quiet_set a.heard a.memory _ c.args.parent (Some c.in-Taken.times) _ (has_place a c.args.parent c.in_ok-listed.ensures) c.keep.ensures.lines (λ e. let z : ◌≡◌ {A = ℕ} 0 1 = cc in absurd (omega arith)) a.quiet,
               (
                 reached_by (hear c.args.parent c.args.packet.now c.args.time (hear_answer (Ok c.in-ok-heard.heard))) rest.shares.entries (rule k c.in-ok-heard.heard c.in-ok-heard.ensures.rule) a.reached,
                 tt,

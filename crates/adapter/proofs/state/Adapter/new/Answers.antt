@@ -30,9 +30,9 @@ none_waits zero p = refl
 none_waits (suc n) zero = refl
 none_waits (suc n) (suc p) = none_waits n p
 
-pub invariant-of-result : goal.invariant-of-result
+pub invariant_of-result : goal.invariant_of-result
 unfolding line_in
-invariant-of-result c =
+invariant_of-result c =
     let config = c.args.config in
     let m = c.new-memory.result in
     let e = c.new-memory.ensures in (

@@ -20,8 +20,8 @@ use Rattle.adapter.proofs.state.Adapter.place_now.Given as given
 use Rattle.adapter.proofs.state.Adapter.place_now.Goals as goal
 use Rattle.adapter.proofs.state.Adapter.place_now.Goals.{After-after-self}
 
-pub overflow-add-end : goal.overflow-add-end
-overflow-add-end g c =
+pub overflow_add-end : goal.overflow_add-end
+overflow_add-end g c =
     let a = c.args.self.now in
     omega (arith, start_low a c.args.frame c.requires.0.rest c.requires.0.due.called.oldest, c.ticks.ensures, c.from.ensures, a.config.settings.0)
 
@@ -101,8 +101,8 @@ module _ (g : given.Over) (c : After-after-self g) where
       (goes_means g.C.Carrier.meaning (adds_in a.step) _ _ _ goes)
       left
 
-pub invariant-of-self : goal.invariant-of-self
-invariant-of-self g c =
+pub invariant_of-self : goal.invariant_of-self
+invariant_of-self g c =
     let a = c.args.self.now in
     let m₂ = c.place-course.new.memory in
     let shared = still_shared a.config _ _ (shares g c) (a.parents, a.size, a.room) in (

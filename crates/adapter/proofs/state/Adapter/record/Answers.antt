@@ -8,12 +8,12 @@ use Rattle.adapter.proofs.Keeping.{never, still_shared, quiet_same, queue_rule}
 use Rattle.adapter.proofs.Views.{state-≡, reached_by}
 use Rattle.adapter.proofs.state.Adapter.record.Goals as goal
 
-pub invariant-of-self-then-precede : goal.invariant-of-self-then-precede
-invariant-of-self-then-precede c =
+pub invariant_of-self-then-precede : goal.invariant_of-self-then-precede
+invariant_of-self-then-precede c =
     let a = c.args.self.now in
     let f : Frame = record { number = c.args.number; start = c.args.start; slots = c.args.slots } in
     let rule = queue_rule (setup_of a) (entries_of a) (view a) f (is_ok c.queue.result) _ _
-    (c.is-roomy.ensures.0 c.if-not-is-roomy.false) (c.in_range.ensures.0 c.if-not-in-range.false) (c.precede.ensures.0 c.if-precede.true)
+    (c.is_roomy.ensures.0 c.if-not-is_roomy.false) (c.in_range.ensures.0 c.if-not-in_range.false) (c.precede.ensures.0 c.if-precede.true)
     c.queue.ensures.test c.queue.ensures.waits c.queue.ensures.last in (
       a.places,
       (
@@ -34,15 +34,15 @@ invariant-of-self-then-precede c =
       ),
     )
 
-pub invariant-of-self-2 : goal.invariant-of-self-2
-invariant-of-self-2 c =
+pub invariant_of-self-2 : goal.invariant_of-self-2
+invariant_of-self-2 c =
     let a = c.args.self.now in
     let f : Frame = record { number = c.args.number; start = c.args.start; slots = c.args.slots } in
-    let rest = c.empty-backlog.ensures.rest in
+    let rest = c.empty_backlog.ensures.rest in
     let shared = still_shared a.config _ _ rest.shares (a.parents, a.size, a.room) in
-    let rule = starts (c.is-roomy.ensures.0 c.if-not-is-roomy.false) (c.in_range.ensures.0 c.if-not-in-range.false)
+    let rule = starts (c.is_roomy.ensures.0 c.if-not-is_roomy.false) (c.in_range.ensures.0 c.if-not-in_range.false)
     (λ follows. never c.precede.result (c.precede.ensures.1 follows) c.if-precede.false)
-    refl (state-≡ (ap (parents_by a.heard) rest.lines) c.renew.ensures.waits c.renew.ensures.last c.empty-backlog.ensures.backlog c.after-self.ensures) in (
+    refl (state-≡ (ap (parents_by a.heard) rest.lines) c.renew.ensures.waits c.renew.ensures.last c.empty_backlog.ensures.backlog c.after-self.ensures) in (
       a.places,
       (
         shared.0,

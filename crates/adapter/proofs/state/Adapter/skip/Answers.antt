@@ -18,14 +18,14 @@ use Rattle.adapter.proofs.state.Adapter.skip.Goals.{After-after-self}
 many : (c : After-after-self) → length c.rates-parents.result.now ≡ length (lines_in c.args.self.now.memory)
 many c = ap length c.rates-parents.ensures ∙ sym (line_count c.args.self.now)
 
-lines : (c : After-after-self) → lines_in c.empty-backlog.new.self ≡ map (from_on c.args.since) (lines_in c.args.self.now.memory)
-lines c = c.empty-backlog.ensures.rest.lines ∙ c.let-go.ensures.lines
+lines : (c : After-after-self) → lines_in c.empty_backlog.new.self ≡ map (from_on c.args.since) (lines_in c.args.self.now.memory)
+lines c = c.empty_backlog.ensures.rest.lines ∙ c.let_go.ensures.lines
 
-shares : (c : After-after-self) → SameShares c.args.self.now.memory c.empty-backlog.new.self
-shares c = same_then _ _ _ c.let-go.ensures.rest.shares c.empty-backlog.ensures.rest.shares
+shares : (c : After-after-self) → SameShares c.args.self.now.memory c.empty_backlog.new.self
+shares c = same_then _ _ _ c.let_go.ensures.rest.shares c.empty_backlog.ensures.rest.shares
 
 left : (c : After-after-self)
-    → state_from c.empty-backlog.new.self c.restart.new.heard c.let-go-before.new.self c.after-self.result
+    → state_from c.empty_backlog.new.self c.restart.new.heard c.let_go_before.new.self c.after-self.result
     ≡ skipping (view c.args.self.now) (hearings_in c.args.self.now)
 left c =
     let a = c.args.self.now in
@@ -35,13 +35,13 @@ left c =
     ∙ restarted_heard c.args.since a.heard c.restart.new.heard (lines_in a.memory) (places_suffice a) c.restart.ensures.many (known_all a hs c.requires.called.anchored)
     (λ p l k. c.restart.ensures.lower p l (omega (arith, many c)))
     ∙ ap (λ m. map (λ h. Some (let_go m h)) hs) c.requires.is)
-    (c.let-go-before.ensures.waits ∙ ap (λ m. records_from m (view a).records) c.requires.is)
-    c.let-go-before.ensures.last
-    c.empty-backlog.ensures.backlog
+    (c.let_go_before.ensures.waits ∙ ap (λ m. records_from m (view a).records) c.requires.is)
+    c.let_go_before.ensures.last
+    c.empty_backlog.ensures.backlog
     c.after-self.ensures
 
-pub invariant-of-self : goal.invariant-of-self
-invariant-of-self c =
+pub invariant_of-self : goal.invariant_of-self
+invariant_of-self c =
     let a = c.args.self.now in
     let hs = hearings_in a in
     let shared = still_shared a.config _ _ (shares c) (a.parents, a.size, a.room) in
@@ -54,7 +54,7 @@ invariant-of-self c =
           (
             shared.2,
             (
-              quiet_restarted c.args.since (length c.rates-parents.result.now) a.heard c.restart.new.heard c.empty-backlog.new.self c.restart.ensures
+              quiet_restarted c.args.since (length c.rates-parents.result.now) a.heard c.restart.new.heard c.empty_backlog.new.self c.restart.ensures
                   (λ p k e. known_all a hs c.requires.called.anchored p (omega (arith, many c)) e)
                   (let same = ap length (lines c) ∙ length-map (lines_in a.memory) (from_on c.args.since) in omega (arith, many c)),
               (

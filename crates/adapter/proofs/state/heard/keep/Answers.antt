@@ -8,11 +8,11 @@ use Rattle.adapter.specs.Keeping.{passes, drops, fills, holds}
 use Rattle.adapter.proofs.Keeping.{unchanged, and_right, and_right_false}
 use Rattle.adapter.proofs.state.heard.keep.Goals as goal
 
-pub returns-then-comes-early : goal.returns-then-comes-early
+pub returns-then-comes_early : goal.returns-then-comes_early
 unfolding line_in
-returns-then-comes-early c =
+returns-then-comes_early c =
     record {
-      rule = passes (inr (ltb-true _ _ (sym c.comes-early.ensures ∙ c.if-comes-early.true))) refl refl;
+      rule = passes (inr (ltb-true _ _ (sym c.comes_early.ensures ∙ c.if-comes_early.true))) refl refl;
       lines = sym (set-get_or (lines_in c.args.memory.now) c.args.parent []);
       rest = unchanged c.args.memory.now;
     }
@@ -30,7 +30,7 @@ pub returns-in-Unpatchable : goal.returns-in-Unpatchable
 unfolding line_in
 returns-in-Unpatchable c =
     record {
-      rule = drops (ltb-false _ _ (sym c.comes-early.ensures ∙ c.if-comes-early.false)) (ap meant c.in-Unpatchable.is) refl refl;
+      rule = drops (ltb-false _ _ (sym c.comes_early.ensures ∙ c.if-comes_early.false)) (ap meant c.in-Unpatchable.is) refl refl;
       lines = sym (set-get_or (lines_in c.args.memory.now) c.args.parent []);
       rest = unchanged c.args.memory.now;
     }
@@ -41,7 +41,7 @@ returns-in-Ok c =
     record {
       rule =
           holds (record { arrival = c.heard_to.result; row = c.in-Deliverable.row; bytes = c.in-Deliverable.bytes })
-          (ltb-false _ _ (sym c.comes-early.ensures ∙ c.if-comes-early.false)) (ap meant c.in-Deliverable.is) c.heard_to.ensures
+          (ltb-false _ _ (sym c.comes_early.ensures ∙ c.if-comes_early.false)) (ap meant c.in-Deliverable.is) c.heard_to.ensures
           (ltb-true _ _ (and_right _ _ c.in-Ok.ensures.test)) refl line;
       lines = c.in-Ok.ensures.lines ∙ ap (set (lines_in c.args.memory.now) c.args.parent) (sym line);
       rest = c.hold.ensures.rest;
@@ -54,7 +54,7 @@ returns-in-Err c =
     record {
       rule =
           fills (record { arrival = c.heard_to.result; row = c.in-Deliverable.row; bytes = c.in-Deliverable.bytes })
-          (ltb-false _ _ (sym c.comes-early.ensures ∙ c.if-comes-early.false)) (ap meant c.in-Deliverable.is) c.heard_to.ensures
+          (ltb-false _ _ (sym c.comes_early.ensures ∙ c.if-comes_early.false)) (ap meant c.in-Deliverable.is) c.heard_to.ensures
           (ltb-false _ _ (and_right_false _ _ (lt-ltb _ _ c.requires) c.in-Err.ensures.test)) refl (ap (λ l. get_or l c.args.parent []) same);
       lines = same ∙ sym (ap (set (lines_in c.args.memory.now) c.args.parent) (ap (λ l. get_or l c.args.parent []) same) ∙ set-get_or (lines_in c.args.memory.now) c.args.parent []);
       rest = c.hold.ensures.rest;

@@ -13,9 +13,9 @@ unfolding line_in
 loop-p-preserved c =
     let m₀ = c.args.memory.now in
     let i = c.loop-p.invariant in
-    let rest = c.let-go-before.ensures.rest in (
+    let rest = c.let_go_before.ensures.rest in (
       cut_one c.args.since c.loop-p.p (lines_in m₀) (lines_in c.loop-p.memory) _ (omega (arith, i.0.many, length_lines m₀, c.requires)) i.0
-          (c.let-go-before.ensures.lines ∙ ap (set (lines_in c.loop-p.memory) c.loop-p.p) (entries_from c.args.since (get_or (lines_in c.loop-p.memory) c.loop-p.p []))),
+          (c.let_go_before.ensures.lines ∙ ap (set (lines_in c.loop-p.memory) c.loop-p.p) (entries_from c.args.since (get_or (lines_in c.loop-p.memory) c.loop-p.p []))),
       record { backlog = rest.backlog ∙ i.1.backlog; shares = same_then _ _ _ i.1.shares rest.shares },
     )
 

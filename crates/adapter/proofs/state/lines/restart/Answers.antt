@@ -2,7 +2,7 @@ use Rattle.std.proofs.Common.{◌≡◌, ◌+◌, sym, ◌∙◌, subst, arith}
 use Rattle.adapter.specs.Parents.{Restarted}
 use Rattle.adapter.proofs.Letting.{known_at, restart_none, restart_some, restart_silent}
 use Rattle.adapter.proofs.state.lines.restart.Goals as goal
-use Rattle.adapter.proofs.state.lines.restart.Goals.{in-Some, in-default}
+use Rattle.adapter.proofs.state.lines.restart.Goals.{in-Some, in_default}
 
 pub loop-p-init : goal.loop-p-init
 loop-p-init c = restart_none c.args.since c.args.heard.now
@@ -14,9 +14,9 @@ loop-p-preserved c =
       | in-Some w ↦
           subst (Restarted c.args.since (c.loop-p.p + 1) c.args.heard.now) (sym w.heard-is)
           (restart_some c.args.since c.loop-p.p c.args.heard.now c.loop-p.heard w.in-Some.times w.since.result (omega arith) c.loop-p.invariant (here ∙ w.in-Some.is) w.since.ensures)
-      | in-default w ↦
+      | in_default w ↦
           subst (Restarted c.args.since (c.loop-p.p + 1) c.args.heard.now) (sym w.heard-is)
-          (restart_silent c.args.since c.loop-p.p c.args.heard.now c.loop-p.heard c.loop-p.invariant (here ∙ w.in-default.is))
+          (restart_silent c.args.since c.loop-p.p c.args.heard.now c.loop-p.heard c.loop-p.invariant (here ∙ w.in_default.is))
     ]
 
 pub returns : goal.returns

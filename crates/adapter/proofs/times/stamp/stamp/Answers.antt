@@ -16,7 +16,7 @@ returns-in-Some-time c =
     λ line. at c.args.rate line {k' = None} c.first_anchor.result c.in-None.is c.in-Some-time.is (c.first_anchor.ensures c.args.rate)
 
 pub returns-in-None-time-2 : goal.returns-in-None-time-2
-returns-in-None-time-2 c = λ line. at c.args.rate line c.count-on.result c.in-Some.is c.in-None-time-2.is (c.count-on.ensures line)
+returns-in-None-time-2 c = λ line. at c.args.rate line c.count_on.result c.in-Some.is c.in-None-time-2.is (c.count_on.ensures line)
 
 pub returns-in-Some-time-2 : goal.returns-in-Some-time-2
 returns-in-Some-time-2 c =
