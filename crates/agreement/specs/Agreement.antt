@@ -1,5 +1,5 @@
 -- Frames that two sites added: where two frames differ, which frames both added, and from which number on those are equal. Assumes nothing.
-use Rattle.std.specs.Prelude.{◌≡◌, ℕ, ◌+◌, ◌*◌, ◌<◌, ◌≤◌, Bool, true, false, ◌||◌, List, [], ◌∷◌, length, take, drop, Some, None, vec_items, count_by, Option, ◌==◌, ◌≢◌, nat_lt}
+use Rattle.std.specs.Prelude.{◌≡◌, ℕ, ◌+◌, ◌*◌, ◌<◌, ◌≤◌, Bool, true, false, ◌||◌, List, [], ◌∷◌, take, drop, Some, None, vec_items, count_by, Option, ◌==◌, ◌≢◌, nat_lt}
 use Rattle.std.specs.List.{ContainsAt as Has}
 use Rattle.agreement.specs.declared.Added.{Added}
 

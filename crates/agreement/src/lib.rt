@@ -1,5 +1,6 @@
 // The frames that two sites added, and from which of them on the two agree.
 #![tactic(auto)]
+
 ghost use Rattle.std.specs.Prelude.{◌≡◌, ◌&&◌, MatchBool, nat_le};
 ghost use Rattle.agreement.specs.Agreement.{packets_in, PartsAt, FirstDifference, is_among, common_in, Differ, Alike, DiffersAmong, AlikeAmong, EqualFrom, Agreed, lower};
 

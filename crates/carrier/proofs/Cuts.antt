@@ -1,6 +1,6 @@
 -- Bytes cut into pieces of one length: how many there are, which they are, and one more.
-use Rattle.std.proofs.Common.{◌≡◌, ℕ, zero, suc, ◌+◌, ◌-◌, ◌*◌, ◌/◌, ◌%◌, ◌<◌, ◌≤◌, List, [], ◌∷◌, ◌++◌, length, get_or, take, drop, sym, refl, ap, ◌∙◌, le_of_suc-le-suc, not-suc-le-zero, suc-mul, div-add-mod', zero-mul, add-one, arith, length-append, length-drop, take-append-drop}
-use native.Mathlib.Nat.{add-div_right, zero-div, div-eq-sub-div, mod-eq-sub-mod}
+use Rattle.std.proofs.Common.{◌≡◌, ℕ, zero, suc, ◌+◌, ◌*◌, ◌/◌, ◌%◌, ◌<◌, ◌≤◌, [], ◌∷◌, ◌++◌, length, get_or, take, drop, sym, refl, ap, ◌∙◌, le_of_suc-le-suc, not-suc-le-zero, suc-mul, div-add-mod', zero-mul, add-one, arith, length-append, length-drop, take-append-drop}
+use native.Mathlib.Nat.{add-div_right, zero-div, div-eq-sub-div}
 use Rattle.std.specs.List.{flat_map}
 use Rattle.std.proofs.lemmas.List.{take_all, drop-drop, take-append-le, drop-append-le, nil_from_length}
 use Rattle.psi.specs.Packet.{Bytes}

@@ -1,13 +1,11 @@
 -- The used bytes of a store, and the places of a carrier that has its bytes in one.
-use Rattle.std.proofs.Common.{◌≡◌, ℕ, ◌+◌, ◌*◌, ◌/◌, ◌%◌, ◌^◌, ◌<◌, ◌≤◌, List, [], ◌∷◌, ◌++◌, length, take, vec_items, sym, refl, ap, ◌∙◌, arith}
+use Rattle.std.proofs.Common.{◌≡◌, ℕ, ◌+◌, ◌/◌, ◌%◌, ◌^◌, ◌<◌, List, [], ◌∷◌, ◌++◌, length, take, vec_items, sym, ap, ◌∙◌, arith}
 use native.Mathlib.Nat.{add-div_right}
 use Rattle.std.proofs.lemmas.List.{length-take-le}
 use Rattle.psi.specs.Packet.{Bytes}
 use Rattle.carrier.specs.declared.store.Store.{Store}
-use Rattle.carrier.specs.Meaning.{Meaning, Carried, vacant}
-use Rattle.carrier.specs.Pieces.{cut}
+use Rattle.carrier.specs.Meaning.{Carried, vacant}
 use Rattle.carrier.specs.Stores.{size, unused, written, housed}
-use Rattle.carrier.proofs.Cuts.{length_cut}
 
 pub length_written : (s : Store) → length (written s) ≡ s.used
 length_written s = length-take-le s.used (vec_items s.bytes) (omega (arith, s.within, s.bytes.ok.0))

@@ -1,5 +1,5 @@
 -- What a carrier means to its user, and what each call does to that.
-use Rattle.std.specs.Prelude.{◌≡◌, ℕ, ◌+◌, ◌≤◌, Bool, cond, ◌&&◌, List, [], ◌∷◌, ◌++◌, length, Some, None, Ok, Err, Option, Result, ◌==◌}
+use Rattle.std.specs.Prelude.{◌≡◌, ℕ, ◌+◌, ◌≤◌, Bool, cond, ◌&&◌, List, [], ◌++◌, length, Some, None, Ok, Err, Option, Result, ◌==◌}
 use Rattle.psi.specs.Packet.{Bytes, byte}
 use Rattle.carrier.specs.declared.PutFault.{PutFault}
 use Rattle.carrier.specs.declared.PutFault.TheVariants.{NoPacket, NoPlace}

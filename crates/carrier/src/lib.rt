@@ -1,5 +1,6 @@
 // Carriers of transport packets: what every carrier does, and two of them.
 #![tactic(auto)]
+
 ghost use Rattle.std.specs.Prelude.{◌≡◌, [], ◌∷◌, length, is_some, OnErr, OnOk, nat_lt, slice_index_or};
 ghost use Rattle.psi.specs.Packet.{Framed};
 ghost use Rattle.carrier.specs.Meaning.{Meaning, Carried, vacant, number_of, refusal, refusal_in};

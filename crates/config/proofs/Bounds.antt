@@ -1,5 +1,5 @@
 -- A refusal names a line of the text or the one behind its last, and a field that its line could have.
-use Rattle.std.proofs.Common.{◌≡◌, ℕ, zero, suc, ◌+◌, ◌<◌, ◌≤◌, Bool, true, false, cond, ◌&&◌, ◌||◌, eqb, ltb, leb, ◌⊎◌, List, [], ◌∷◌, length, drop, Some, None, Ok, Err, Option, sym, refl, ap, ◌∙◌, subst, inl, inr, ⊎_elim, zero-le, arith}
+use Rattle.std.proofs.Common.{◌≡◌, ℕ, zero, suc, ◌+◌, ◌<◌, ◌≤◌, Bool, true, false, cond, ◌&&◌, ◌||◌, eqb, ltb, leb, ◌⊎◌, List, [], ◌∷◌, length, Some, None, Ok, Err, Option, sym, refl, ap, ◌∙◌, subst, inl, inr, zero-le, arith}
 use Rattle.std.specs.List.{slice_get}
 use Rattle.std.specs.Option.{option_or, option_map}
 use Rattle.std.specs.Str.{bytes_eq}
@@ -11,7 +11,7 @@ use Rattle.config.specs.declared.fault.TextRefusal.{TextRefusal}
 use Rattle.config.specs.declared.fault.TextRefusal.TheVariants.{Names, Form, Range}
 use Rattle.config.specs.declared.row.Row.{Row}
 use Rattle.config.specs.declared.table.Config.{Config}
-use Rattle.config.specs.Layout.{Rule, Place, names, settings, gap, parent, map_row, fault, too_long, leftmost, values_wrong, table_line, row_wrong, row_of, line_wrong, end_wrong, wrong_at, place, fault_at, settings_rules, parent_rules, row_rules, parents, map_rows, setup_of}
+use Rattle.config.specs.Layout.{Rule, Place, names, settings, gap, parent, map_row, fault, leftmost, values_wrong, table_line, row_wrong, row_of, line_wrong, end_wrong, wrong_at, place, fault_at, settings_rules, parent_rules, row_rules, parents, map_rows, setup_of}
 use Rattle.config.specs.Rows.{is_pmt}
 use Rattle.config.specs.Text.{Bytes, onto, cut, lines, fields}
 use Rattle.config.specs.Told.{text_number, Small, packed_fault, packed, no_memory}

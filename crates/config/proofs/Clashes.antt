@@ -1,11 +1,10 @@
 -- A map without a clash keeps its rows apart.
-use Rattle.std.proofs.Common.{◌≡◌, ℕ, zero, suc, ◌+◌, ◌-◌, ◌<◌, ◌≤◌, Bool, true, false, cond, ◌&&◌, ◌||◌, eqb, ltb, leb, ◌⊎◌, List, [], ◌∷◌, length, get_or, take, drop, Some, None, Option, sym, refl, ap, ◌∙◌, subst, subst₂, inl, inr, ⊎_elim, arith}
-use Rattle.std.specs.List.{slice_get, ContainsAt as Has}
+use Rattle.std.proofs.Common.{◌≡◌, ℕ, zero, suc, ◌+◌, ◌-◌, ◌<◌, ◌≤◌, Bool, true, false, cond, ◌&&◌, ◌||◌, eqb, leb, List, [], ◌∷◌, length, get_or, take, drop, Some, None, sym, refl, ap, ◌∙◌, subst, subst₂, inl, inr, arith}
 use Rattle.std.proofs.lemmas.List.{get_or-take, length-take-le, at_drop_more}
 use Rattle.std.proofs.lemmas.Option.{slice_get-get_or}
 use Rattle.std.proofs.lemmas.Bool.{eq-eqb, lt-ltb, leb-false, and_from, or_left, or_right, or_parts, or_from, both_ways, cond-true, cond-false, le-leb, lt-leb}
 use Rattle.config.specs.declared.row.Row.{Row}
-use Rattle.config.specs.Rows.{Before, Shares, NoneShares, AllListed}
+use Rattle.config.specs.Rows.{Shares, NoneShares, AllListed}
 use Rattle.config.specs.Verdict.{first, shares, any_shares, clash_of, clash_at, first_clash}
 use Rattle.config.proofs.Firsts.{none_all, first_here, first_step}
 

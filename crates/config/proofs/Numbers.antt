@@ -1,10 +1,10 @@
 -- What a field's bytes say of its number.
-use Rattle.std.proofs.Common.{◌≡◌, ℕ, zero, suc, ◌+◌, ◌-◌, ◌*◌, ◌^◌, ◌<◌, ◌≤◌, Bool, true, false, cond, not, ◌&&◌, ◌||◌, eqb, ltb, leb, ◌⊎◌, List, [], ◌∷◌, length, get_or, take, drop, Some, None, Option, sym, refl, ap, ◌∙◌, inl, inr, ⊎_elim, pow-suc, add-one, arith}
+use Rattle.std.proofs.Common.{◌≡◌, ℕ, ◌+◌, ◌-◌, ◌*◌, ◌^◌, ◌<◌, ◌≤◌, Bool, true, false, cond, not, ◌&&◌, ◌||◌, eqb, ltb, leb, ◌⊎◌, length, get_or, drop, Some, None, Option, refl, ◌∙◌, inl, inr, ⊎_elim, pow-suc, add-one, arith}
 use Rattle.std.proofs.lemmas.List.{at_drop_more, at_drop_all}
-use Rattle.std.proofs.lemmas.Bool.{eq-eqb, ne_eqb, lt-ltb, le-ltb, le-leb, lt-leb, and_left, and_right, and_from, or_left, or_right, cond-true, cond-false, not_from_false, cases_eq, cases_lt}
+use Rattle.std.proofs.lemmas.Bool.{eq-eqb, ne_eqb, lt-ltb, le-ltb, le-leb, lt-leb, and_left, and_right, and_from, or_left, or_right, cond-true, not_from_false, cases_eq, cases_lt}
 use Rattle.config.specs.declared.fault.TextRefusal.{TextRefusal}
 use Rattle.config.specs.declared.fault.TextRefusal.TheVariants.{Form, Range}
-use Rattle.config.specs.Layout.{within, range_wrong}
+use Rattle.config.specs.Layout.{within}
 use Rattle.config.specs.Rows.{Between}
 use Rattle.config.specs.Text.{Bytes, is_digit, all_digits, is_number, written_after, written, number}
 

@@ -1,12 +1,10 @@
 -- The second table: where it ends, and what its lines say.
-use Rattle.std.proofs.Common.{◌≡◌, ℕ, zero, suc, ◌+◌, ◌-◌, ◌<◌, ◌≤◌, max, Bool, true, false, cond, ◌&&◌, ◌||◌, eqb, ltb, leb, ◌⊎◌, List, [], ◌∷◌, ◌++◌, map, length, get_or, take, drop, Some, None, Ok, Err, Option, Result, sym, refl, ap, ◌∙◌, subst, inl, inr, ⊎_elim, add-one, arith}
+use Rattle.std.proofs.Common.{◌≡◌, ℕ, zero, suc, ◌+◌, ◌-◌, ◌<◌, ◌≤◌, max, true, false, cond, ◌&&◌, eqb, ltb, ◌⊎◌, List, [], ◌∷◌, ◌++◌, map, length, get_or, take, drop, Some, None, Ok, Err, Option, Result, sym, refl, ap, ◌∙◌, subst, inl, inr, ⊎_elim, add-one, arith}
 use Rattle.std.specs.List.{slice_get}
-use Rattle.std.proofs.lemmas.List.{length_push, map_push, get_or_push, get_or_append_left, take_more}
-use Rattle.std.proofs.lemmas.Option.{slice_get-get_or}
-use Rattle.std.proofs.lemmas.Bool.{eq-eqb, ne_eqb, lt-ltb, le-ltb, ltb-true, ltb-false, leb-true, leb-false, eqb-true, eqb-false, and_parts, and_cases, or_parts, cases_Bool, cases_eq, cases_lt, cond-true, cond-false}
+use Rattle.std.proofs.lemmas.List.{length_push, map_push, get_or_push, get_or_append_left}
+use Rattle.std.proofs.lemmas.Bool.{eq-eqb, ne_eqb, lt-ltb, le-ltb, ltb-true, ltb-false, eqb-true, eqb-false, and_parts, and_cases, cases_Bool, cases_eq, cases_lt, cond-true, cond-false}
 use Rattle.config.specs.declared.fault.TextFault.{TextFault}
-use Rattle.config.specs.declared.fault.TextRefusal.TheVariants.{Names, Range}
-use Rattle.config.specs.Layout.{Place, gap, parent, place, parents, filled, fault, wrong_at, table_line, values_wrong, parent_rules, rate_of, field_at, line_wrong, end_wrong}
+use Rattle.config.specs.Layout.{gap, parent, place, parents, filled, wrong_at, values_wrong, parent_rules, rate_of, field_at, line_wrong, end_wrong}
 use Rattle.config.specs.declared.line.Line.{Line}
 use Rattle.config.specs.declared.reader.Reader.{Reader}
 use Rattle.config.specs.Reading.{unless, Next, bytes_of, wrong, parents_end, parent_or_gap, rate_or_none}

@@ -1,10 +1,10 @@
 -- The third table: what its lines say, up to the end of the text.
-use Rattle.std.proofs.Common.{◌≡◌, ℕ, zero, suc, ◌+◌, ◌-◌, ◌<◌, ◌≤◌, Bool, true, false, cond, ◌&&◌, eqb, ltb, leb, ◌⊎◌, List, [], ◌∷◌, ◌++◌, map, length, get_or, take, drop, Some, None, Ok, Err, codes, Option, Result, sym, refl, ap, ◌∙◌, subst, subst₂, inl, inr, ⊎_elim, arith, length-drop}
+use Rattle.std.proofs.Common.{◌≡◌, ℕ, zero, suc, ◌+◌, ◌-◌, ◌<◌, ◌≤◌, Bool, true, false, cond, ◌&&◌, leb, List, [], ◌∷◌, ◌++◌, map, length, take, drop, Some, None, Ok, Err, codes, Option, Result, sym, refl, ap, ◌∙◌, subst, subst₂, ⊎_elim, arith, length-drop}
 use Rattle.std.specs.List.{slice_get, ContainsAt as Has}
-use Rattle.std.specs.Option.{option_map, option_or}
+use Rattle.std.specs.Option.{option_map}
 use Rattle.std.proofs.ByRecursion.{has_push_cases}
-use Rattle.std.proofs.lemmas.List.{length_push, length-map, map_push, take-map, take_all}
-use Rattle.std.proofs.lemmas.Bool.{eq-eqb, ne_eqb, le-ltb, eqb-false, and_cases, leb-false, cond-true, cases_eq}
+use Rattle.std.proofs.lemmas.List.{length_push, length-map, take_all}
+use Rattle.std.proofs.lemmas.Bool.{eq-eqb, ne_eqb, le-ltb, leb-false, cond-true, cases_eq}
 use Rattle.config.specs.declared.fault.TextFault.{TextFault}
 use Rattle.config.specs.declared.fault.TextRefusal.TheVariants.{Range}
 use Rattle.config.specs.declared.line.Line.{Line}
@@ -12,9 +12,9 @@ use Rattle.config.specs.declared.reader.Reader.{Reader}
 use Rattle.config.specs.declared.row.Row.{Row}
 use Rattle.config.specs.declared.row.Kind.{Kind}
 use Rattle.config.specs.declared.row.Kind.TheVariants.{Pass, Pmt}
-use Rattle.config.specs.Layout.{Place, names, map_row, place, parents, map_rows, fault, field_at, wrong_at, line_wrong, end_wrong, table_line, row_wrong, values_wrong, row_rules, row_of}
+use Rattle.config.specs.Layout.{names, map_row, place, parents, map_rows, fault, field_at, wrong_at, line_wrong, end_wrong, values_wrong, row_rules, row_of}
 use Rattle.config.specs.Reading.{unless, Next, bytes_of, wrong}
-use Rattle.config.specs.Rows.{Between, RowInRange, RowsInRange, is_pmt, pmts}
+use Rattle.config.specs.Rows.{RowInRange, RowsInRange, is_pmt, pmts}
 use Rattle.config.specs.Text.{Bytes}
 use Rattle.config.specs.Walk.{At, First, RowsRead}
 use Rattle.config.proofs.Lines.{values_kept, unless_ok, table_right, or_other_none}

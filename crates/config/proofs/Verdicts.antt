@@ -1,11 +1,10 @@
 -- The verdict on a text, from what was found in it.
-use Rattle.std.proofs.Common.{◌≡◌, ℕ, suc, ◌+◌, ◌-◌, ◌<◌, ◌≤◌, true, false, cond, List, [], ◌∷◌, map, length, get_or, take, drop, IsErrAnd, Some, None, Ok, Err, codes, Option, Result, sym, refl, ap, ◌∙◌, subst, arith, length-drop}
+use Rattle.std.proofs.Common.{◌≡◌, ℕ, suc, ◌+◌, ◌-◌, ◌≤◌, List, [], ◌∷◌, length, get_or, take, drop, IsErrAnd, Some, None, Ok, Err, codes, Result, sym, refl, ap, ◌∙◌, subst, arith, length-drop}
 use Rattle.std.specs.Option.{option_or}
 use Rattle.std.proofs.lemmas.List.{length-map, length-take-le}
 use Rattle.config.specs.declared.fault.ConfigFault.{ConfigFault}
 use Rattle.config.specs.declared.fault.ConfigFault.TheVariants.{Text, Clash, Memory}
 use Rattle.config.specs.declared.fault.TextFault.{TextFault}
-use Rattle.config.specs.declared.fault.TextRefusal.TheVariants.{Names}
 use Rattle.config.specs.declared.row.Row.{Row}
 use Rattle.config.specs.declared.line.Line.{Line}
 use Rattle.config.specs.declared.reader.Reader.{Reader}

@@ -1,5 +1,5 @@
 -- The verdict on a text as it is told: as one number to C, and as a line.
-use Rattle.std.specs.Prelude.{ℕ, ◌+◌, ◌*◌, ◌≤◌, List, [], ◌++◌, length, Ok, Err, codes, decimal, Result}
+use Rattle.std.specs.Prelude.{ℕ, ◌+◌, ◌*◌, ◌≤◌, ◌++◌, length, Ok, Err, codes, decimal, Result}
 use Rattle.config.specs.declared.fault.TextRefusal.{TextRefusal}
 use Rattle.config.specs.declared.fault.TextRefusal.TheVariants.{Names, Form, Range}
 use Rattle.config.specs.declared.fault.ConfigFault.{ConfigFault}

@@ -1,5 +1,6 @@
 // One memory, given at power-up, in which a backlog and the line of each parent wait side by side.
 #![tactic(auto)]
+
 ghost use Rattle.std.specs.Prelude.{◌≡◌, ◌-◌, ◌/◌, ◌≤◌, min, ◌&&◌, [], ◌∷◌, ◌++◌, length, drop, replicate, is_ok, if◌then◌else◌, vec_len, MatchOption, nat_lt, slice_set};
 ghost use Rattle.std.specs.Option.{option_map};
 ghost use Rattle.std.specs.List.Sorted.{IsNonDecreasingBy};

@@ -1,5 +1,6 @@
 // Transport packets and the two tables that are written: heads, stuffing, CRC-32, PAT copies, patched PMTs.
 #![tactic(auto)]
+
 pub mod crc;
 pub mod delivery;
 pub mod lookup;

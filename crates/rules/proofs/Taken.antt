@@ -5,7 +5,7 @@ use Rattle.config.specs.Setup.{Setup}
 use Rattle.carrier.specs.Meaning.{Meaning}
 use Rattle.rules.specs.Slots.{Frame, end_of}
 use Rattle.rules.specs.State.{Checked, Hearing, latest, State, parents_of, parent_at}
-use Rattle.rules.specs.Calls.{Called, let_go, Loses, loses, LossAnswer, lost, refused_loss, Records, outside, eight, queues, starts, RecordAnswer, Frames, none, silent, skips, unheard, crowded, follows, adds, FrameAnswer}
+use Rattle.rules.specs.Calls.{Called, let_go, Loses, loses, LossAnswer, lost, refused_loss, Records, outside, eight, queues, starts, RecordAnswer, Frames, none, silent, skips, crowded, follows, adds, FrameAnswer}
 use Rattle.rules.specs.Log.{Event, hear, loss, recorded, framed, Log, nothing, gone, Took, Leads, begins, next, held}
 use Rattle.rules.specs.Laws.{taken}
 use Rattle.rules.proofs.Kept.{Kept}

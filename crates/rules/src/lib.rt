@@ -1,6 +1,7 @@
 // The rules of the adapter, and the laws that hold of every site that keeps them. There is no running adapter here:
 // each function below only carries what is proved of the definitions in specs/.
 #![tactic(auto)]
+
 ghost use Rattle.config.specs.Setup.{setup};
 ghost use Rattle.rules.specs.Cases.{WorkedCases};
 ghost use Rattle.rules.specs.Determined.{HearHasOne, LossHasOne, RecordHasOne, FrameHasOne};

@@ -1,4 +1,4 @@
-use Rattle.std.proofs.Common.{◌≡◌, ℕ, ◌+◌, List, [], length, get_or, Ok, Err, vec_items, vec_len, sym, refl, ap, ◌∙◌, subst, arith}
+use Rattle.std.proofs.Common.{◌≡◌, ◌+◌, [], length, get_or, Ok, Err, vec_items, sym, ap, ◌∙◌, subst, arith}
 use Rattle.config.specs.declared.fault.ConfigFault.TheVariants.{Clash}
 use Rattle.config.specs.Layout.{parents, settings_of}
 use Rattle.config.specs.declared.row.Settings.{Settings}

@@ -1,4 +1,4 @@
-use Rattle.std.proofs.Common.{◌≡◌, ◌+◌, sym, refl, ap, ◌∙◌, subst}
+use Rattle.std.proofs.Common.{◌+◌, sym, subst}
 use Rattle.config.proofs.Pieces.{Spaces, spaces_none, space_more, other_more, spaces_all}
 use Rattle.config.proofs.cuts.count_fields.Goals as goal
 use Rattle.config.proofs.cuts.count_fields.Goals.{then-b-eq32, else-b-eq32}

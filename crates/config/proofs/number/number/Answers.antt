@@ -1,4 +1,4 @@
-use Rattle.std.proofs.Common.{◌≡◌, ◌+◌, ◌*◌, ◌⊎◌, Some, sym, refl, ap, ◌∙◌, subst, inl, inr, ⊎_elim, arith}
+use Rattle.std.proofs.Common.{◌+◌, ◌*◌, Some, sym, ap, ◌∙◌, subst, inl, inr, ⊎_elim, arith}
 use Rattle.config.proofs.Numbers.{wrong_length, leading_zero, no_digit, right_number, Sofar, sofar_none, sofar_more, sofar_stops, sofar_all}
 use Rattle.config.proofs.number.number.Goals as goal
 use Rattle.config.proofs.number.number.Goals.{then-b-lt48-via-then-b-lt48, then-b-lt48-via-else-b-lt48+then-b-gt57, else-digits-gt1-via-then-digits-gt1+else-field-eq48, else-digits-gt1-via-else-digits-gt1}

@@ -1,6 +1,4 @@
-use Rattle.std.proofs.Common.{◌≡◌, ◌⊎◌, Ok, Err, sym, refl, ap, ◌∙◌, inl, inr, ⊎_elim}
-use Rattle.config.specs.Reading.{unless}
-use Rattle.config.specs.Text.{written}
+use Rattle.std.proofs.Common.{Ok, sym, refl, ap, inl, inr, ⊎_elim}
 use Rattle.config.proofs.Numbers.{no_number, is_written, in_range, out_of_range}
 use Rattle.config.proofs.number.number_within.Goals as goal
 

@@ -1,4 +1,4 @@
-use Rattle.std.proofs.Common.{◌≡◌, List, [], ◌∷◌, sym, refl, ap, ◌∙◌, subst}
+use Rattle.std.proofs.Common.{refl, ◌∙◌}
 use Rattle.config.specs.Layout.{place, settings_of}
 use Rattle.config.proofs.Lines.{unless_ok}
 use Rattle.config.proofs.Walks.{begun, needed_names, needed_settings, needed_gap, more, bad, said, reads_err}

@@ -1,4 +1,4 @@
-use Rattle.std.proofs.Common.{◌≡◌, length, Ok, vec_items, sym, refl, ap, ◌∙◌, subst, arith}
+use Rattle.std.proofs.Common.{◌≡◌, length, Ok, vec_items, sym, ap, ◌∙◌, subst, arith}
 use Rattle.config.proofs.SecondTable.{ReadParents, parent_wrong, parent_more, parents_done}
 use Rattle.config.proofs.Walks.{memory_reads_err}
 use Rattle.config.proofs.tables.read_parents.Goals as goal

@@ -1,4 +1,4 @@
-use Rattle.std.proofs.Common.{◌≡◌, ◌+◌, cond, length, Ok, vec_items, sym, refl, ap, ◌∙◌, arith, rules}
+use Rattle.std.proofs.Common.{◌≡◌, ◌+◌, cond, length, Ok, vec_items, sym, ap, ◌∙◌, arith, rules}
 use Rattle.config.specs.declared.row.Kind.TheVariants.{Pmt}
 use Rattle.config.specs.Rows.{is_pmt}
 use Rattle.config.proofs.ThirdTable.{no_pmt, same_rows, row_wrong_here, row_more, rows_done}

@@ -1,8 +1,8 @@
-use Rattle.std.proofs.Common.{◌≡◌, List, [], ◌∷◌, Ok, Err, sym, refl, ap, ◌∙◌, subst}
+use Rattle.std.proofs.Common.{◌≡◌, Ok, Err, refl, subst}
 use Rattle.config.specs.Layout.{row_rules, row_of, kind}
 use Rattle.config.specs.Text.{written}
 use Rattle.config.specs.Reading.{unless, at_field, next_field}
-use Rattle.config.proofs.Lines.{service_rule, Read, opened, more, exits_closed, exits_wrong, value_is, all_right}
+use Rattle.config.proofs.Lines.{service_rule, opened, more, exits_closed, exits_wrong, value_is, all_right}
 use Rattle.config.proofs.values.read_row.Goals as goal
 
 pub returns-in_err-fields : goal.returns-in_err-fields

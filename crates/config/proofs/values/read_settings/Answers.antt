@@ -1,7 +1,7 @@
-use Rattle.std.proofs.Common.{◌≡◌, List, [], ◌∷◌, Ok, sym, refl, ap, ◌∙◌}
+use Rattle.std.proofs.Common.{Ok, refl}
 use Rattle.config.specs.Layout.{settings_rules, settings_of}
 use Rattle.config.specs.Text.{written}
-use Rattle.config.proofs.Lines.{Read, opened, more, exits_closed, exits_wrong, value_is, all_right}
+use Rattle.config.proofs.Lines.{opened, more, exits_closed, exits_wrong, value_is, all_right}
 use Rattle.config.proofs.values.read_settings.Goals as goal
 
 pub returns-in_err-fields : goal.returns-in_err-fields

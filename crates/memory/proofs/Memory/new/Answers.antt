@@ -1,4 +1,4 @@
-use Rattle.std.proofs.Common.{◌≡◌, ◌-◌, ◌/◌, min, drop, replicate, vec_items, vec_len, refl, ap, ◌∙◌, arith}
+use Rattle.std.proofs.Common.{◌-◌, ◌/◌, min, drop, vec_items, vec_len, refl, ap, ◌∙◌, arith}
 use Rattle.memory.proofs.Memory.new.Goals as goal
 use Rattle.memory.proofs.Regions.{side_none}
 use Rattle.memory.specs.Memory.{entries_in, size_in, parents_in, room_in, lines_in, backlog_in, side_by_side}

@@ -1,4 +1,4 @@
-use Rattle.std.proofs.Common.{◌≡◌, ◌-◌, ◌/◌, min, arith}
+use Rattle.std.proofs.Common.{◌≡◌, ◌-◌, ◌/◌, arith}
 use native.Mathlib.Nat.{div-zero, min_comm}
 use Rattle.memory.proofs.Memory.room.Goals as goal
 use Rattle.memory.specs.Memory.{entries_in, size_in, parents_in, room_in}

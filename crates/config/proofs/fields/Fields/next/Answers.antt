@@ -1,7 +1,7 @@
-use Rattle.std.proofs.Common.{◌≡◌, ℕ, ◌+◌, ◌<◌, ◌≤◌, List, [], ◌∷◌, length, get_or, take, drop, sym, refl, ap, ◌∙◌}
+use Rattle.std.proofs.Common.{◌≡◌, [], ◌∷◌, get_or, take, drop, sym, refl, ap, ◌∙◌}
 use native.Mathlib.Nat.{sub-zero}
-use Rattle.config.specs.Reading.{left, fields_in}
-use Rattle.config.specs.Text.{Bytes, fields}
+use Rattle.config.specs.Reading.{fields_in}
+use Rattle.config.specs.Text.{fields}
 use Rattle.config.proofs.Pieces.{Stops, fields_more, fields_last}
 use Rattle.config.proofs.fields.Fields.next.Goals as goal
 use Rattle.config.proofs.fields.Fields.next.Goals.{then-end-bytes, else-end-bytes, Joined-end-bytes}

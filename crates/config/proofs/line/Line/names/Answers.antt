@@ -1,4 +1,4 @@
-use Rattle.std.proofs.Common.{◌≡◌, Err, sym, refl, ap, ◌∙◌}
+use Rattle.std.proofs.Common.{Err, sym, refl, ap}
 use Rattle.config.specs.Layout.{line_wrong, end_wrong}
 use Rattle.config.proofs.line.Line.names.Goals as goal
 

@@ -1,8 +1,5 @@
-use Rattle.std.proofs.Common.{◌≡◌, true, false, ◌&&◌, leb, Some, None, Ok, Err, sym, refl, ap, ◌∙◌, arith, rules}
+use Rattle.std.proofs.Common.{Err, sym, ap, ◌∙◌, rules}
 use Rattle.std.specs.Option.{option_map}
-use Rattle.std.proofs.lemmas.Bool.{le-leb, lt-leb, and_left, and_right, and_from}
-use Rattle.config.specs.Layout.{row_of}
-use Rattle.config.specs.Rows.{is_pmt}
 use Rattle.config.proofs.AtPlace.{no_row_first, no_row_later, no_row, wrong_row, one_pmt_more, right_at_row}
 use Rattle.config.proofs.Lines.{unless_ok, unless_err, err_is}
 use Rattle.config.proofs.line.Line.row.Goals as goal

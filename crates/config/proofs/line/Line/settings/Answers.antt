@@ -1,4 +1,4 @@
-use Rattle.std.proofs.Common.{◌≡◌, Ok, Err, sym, refl, ap, ◌∙◌}
+use Rattle.std.proofs.Common.{Err, ap}
 use Rattle.config.specs.Layout.{line_wrong, end_wrong}
 use Rattle.config.proofs.Lines.{exits, may_stand, may_not_stand, unless_ok, unless_err}
 use Rattle.config.proofs.line.Line.settings.Goals as goal

@@ -1,8 +1,8 @@
-use Rattle.std.proofs.Common.{◌≡◌, ℕ, ◌+◌, ◌<◌, ◌≤◌, List, ◌∷◌, length, take, drop, Some, sym, refl, ap, ◌∙◌, add-zero, add-one, arith, length-drop}
+use Rattle.std.proofs.Common.{◌≡◌, ◌+◌, ◌<◌, ◌∷◌, length, take, drop, Some, sym, refl, ap, ◌∙◌, add-zero, add-one, arith, length-drop}
 use native.Mathlib.Nat.{sub-zero}
 use Rattle.std.proofs.lemmas.Bool.{eqb-true, eqb-false}
-use Rattle.config.specs.Text.{Bytes, lines}
-use Rattle.config.proofs.Pieces.{Stops, lines_none, lines_step, nth_here, nth_none}
+use Rattle.config.specs.Text.{lines}
+use Rattle.config.proofs.Pieces.{lines_none, lines_step, nth_here, nth_none}
 use Rattle.config.proofs.reader.Reader.next_line.Goals as goal
 use Rattle.config.proofs.reader.Reader.next_line.Goals.{After-after-self}
 

@@ -1,4 +1,4 @@
-use Rattle.std.proofs.Common.{◌%◌, ◌≤◌, length, sym, refl, ap, arith}
+use Rattle.std.proofs.Common.{◌%◌, length, sym, refl, ap, arith}
 use Rattle.carrier.proofs.Stored.{none_written, housed_none}
 use Rattle.carrier.proofs.Unfolding.{none_pending}
 use Rattle.carrier.proofs.folded.carries.FoldedCarrier.empty.Goals as goal

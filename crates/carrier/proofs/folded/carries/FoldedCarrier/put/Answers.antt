@@ -1,4 +1,4 @@
-use Rattle.std.proofs.Common.{◌≡◌, ◌+◌, [], ◌∷◌, ◌++◌, length, sym, refl, ap, ◌∙◌, append_assoc, arith, rules}
+use Rattle.std.proofs.Common.{◌+◌, [], ◌∷◌, ◌++◌, length, sym, refl, ap, ◌∙◌, append_assoc, arith, rules}
 use Rattle.std.proofs.lemmas.List.{length_push}
 use Rattle.carrier.specs.Stores.{written}
 use Rattle.carrier.proofs.Growth.{Grown, goes, stays, grown_whole, grown_bounded, grown_packets, grown_carried, grown_bytes, grown_pending, grown_places}

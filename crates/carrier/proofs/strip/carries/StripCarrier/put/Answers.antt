@@ -1,4 +1,4 @@
-use Rattle.std.proofs.Common.{◌≡◌, ◌+◌, sym, ap, ◌∙◌, lit<, rules}
+use Rattle.std.proofs.Common.{◌≡◌, ◌+◌, ap, ◌∙◌, lit<, rules}
 use Rattle.carrier.specs.Pieces.{cut}
 use Rattle.carrier.specs.Stores.{written}
 use Rattle.carrier.proofs.Cuts.{cut_push}
