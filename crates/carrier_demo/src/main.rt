@@ -1,5 +1,6 @@
 // The same packets in a strip and in a folded carrier: what each holds, and in how many bytes.
 #![tactic(auto)]
+
 use anyhow::anyhow;
 use carrier::{Carrier, Folded, PutFault, Strip};
 use psi::packet::{Head, is_stuffing, stuffing};

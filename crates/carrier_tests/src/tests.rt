@@ -14,8 +14,8 @@ const SIZES: [(usize, usize, usize); 5] = [
 ];
 
 // Fills all places with packets that are no stuffing, and finds it full then.
-fn fills<C: Carrier>(rt: &impl Abort, carrier: &mut C, places: usize) -> Result<(), Fail> {
-    assert_eq!(rt; carrier.capacity(), places);
+fn fills<C: Carrier>(rt: &impl Abort, carrier: &mut C, places: usize) {
+    assert_eq!(rt; carrier.capacity(), places, "a carrier of {places} places");
     follow(
         rt,
         carrier,
@@ -34,20 +34,19 @@ fn fills<C: Carrier>(rt: &impl Abort, carrier: &mut C, places: usize) -> Result<
             Step::Refuses(Kind::Unsynced, PutFault::NoPacket),
             Step::Holds(places),
         ],
-    )?;
+    );
     carrier.empty();
     assert_eq!(rt; carrier.capacity(), places);
     assert_eq!(rt; carrier.free(), places);
-    Ok(())
 }
 
 #[test]
 fn places_of_each_size(rt: HostRuntime) -> Result<(), Fail> {
     for (size, in_strip, in_folded) in SIZES {
         let mut strip = Strip::new(vec![in rt.alloc(); 0; size]?);
-        fills(&rt, &mut strip, in_strip).note(format_args!("a strip of {size} bytes"))?;
+        fills(&rt, &mut strip, in_strip);
         let mut folded = Folded::new(vec![in rt.alloc(); 0; size]?);
-        fills(&rt, &mut folded, in_folded).note(format_args!("a folded carrier of {size} bytes"))?;
+        fills(&rt, &mut folded, in_folded);
     }
     Ok(())
 }
@@ -81,7 +80,7 @@ fn a_strip_is_emptied_and_filled_again(rt: HostRuntime) -> Result<(), Fail> {
             Step::ReadsNone(3),
             Step::ReadsNone(usize::MAX),
         ],
-    )?;
+    );
     assert_eq!(rt; strip.bytes().len(), 3 * 188);
     Ok(())
 }
@@ -116,7 +115,7 @@ fn a_folded_carrier_is_emptied_and_filled_again(rt: HostRuntime) -> Result<(), F
             Step::ReadsNone(5),
             Step::ReadsNone(usize::MAX),
         ],
-    )?;
+    );
     assert_eq!(rt; folded.pending(), 2);
     assert_eq!(rt; folded.bytes().len(), 2 * 189);
     Ok(())
@@ -138,15 +137,15 @@ fn the_count_ends_at_255(rt: HostRuntime) -> Result<(), Fail> {
             Step::Holds(257),
             Step::Refuses(Kind::Stuffing, PutFault::NoPlace),
         ],
-    )?;
+    );
     for i in 0..256 {
-        reads(&rt, &folded, i, Kind::Stuffing)?;
+        reads(&rt, &folded, i, Kind::Stuffing);
     }
     follow(
         &rt,
         &mut folded,
         &[Step::Reads(256, Kind::Data(3)), Step::ReadsNone(257)],
-    )?;
+    );
     let bytes = folded.bytes();
     assert!(rt; bytes.len() == 378);
     assert_eq!(rt; bytes[188], 255);
@@ -167,37 +166,37 @@ fn nth(n: usize) -> Kind {
 const MANY: usize = 3000;
 
 // Many packets in a row, and then each is read back.
-fn carries_many<C: Carrier>(rt: &impl Abort, carrier: &mut C) -> Result<(), Fail> {
+fn carries_many<C: Carrier>(rt: &impl Abort, carrier: &mut C) {
     for n in 0..MANY {
         assert_eq!(rt; put(carrier, nth(n)), Ok(()));
     }
     assert_eq!(rt; carrier.held(), MANY);
     for n in 0..MANY {
-        reads(rt, carrier, n, nth(n))?;
+        reads(rt, carrier, n, nth(n));
     }
-    Ok(())
 }
 
 #[test]
 fn many_in_a_row(rt: HostRuntime) -> Result<(), Fail> {
     let mut strip = Strip::new(vec![in rt.alloc(); 0; MANY * 188]?);
-    carries_many(&rt, &mut strip)?;
+    carries_many(&rt, &mut strip);
     assert_eq!(rt; strip.free(), 0);
     let mut folded = Folded::new(vec![in rt.alloc(); 0; MANY * 189]?);
-    carries_many(&rt, &mut folded)
+    carries_many(&rt, &mut folded);
+    Ok(())
 }
 
 #[test]
 fn one_is_copied_into_the_other(rt: HostRuntime) -> Result<(), Fail> {
     let mut strip = Strip::new(vec![in rt.alloc(); 0; MANY * 188]?);
-    carries_many(&rt, &mut strip)?;
+    carries_many(&rt, &mut strip);
     let mut folded = Folded::new(vec![in rt.alloc(); 0; MANY * 189]?);
     assert_eq!(rt; copy_all(&strip, &mut folded), Ok(()));
     assert_eq!(rt; folded.held(), MANY);
     strip.empty();
     assert_eq!(rt; copy_all(&folded, &mut strip), Ok(()));
     for n in 0..MANY {
-        reads(&rt, &strip, n, nth(n))?;
+        reads(&rt, &strip, n, nth(n));
     }
     assert_eq!(rt; copy_all(&folded, &mut strip), Err(PutFault::NoPlace));
     Ok(())

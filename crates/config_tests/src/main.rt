@@ -1,5 +1,6 @@
 // Prints what the check says of many configuration texts: what the text is, and the answer to it.
 #![tactic(auto)]
+
 mod cases;
 #[cfg(test)]
 mod tests;

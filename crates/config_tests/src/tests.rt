@@ -50,10 +50,10 @@ fn holds_what_is_written(rt: HostRuntime) -> Result<(), Fail> {
     assert_eq!(rt; config.backlog(), 4);
     assert_eq!(rt; config.copies(), 1);
     assert_eq!(rt; config.tsid(), 7);
-    assert_eq!(rt; config.rates(), &[40_000_000, 20_000_000]);
+    assert_eq!(rt; config.rates(), [40_000_000, 20_000_000].as_slice());
     assert_eq!(rt;
         config.rows(),
-        &[
+        [
             Row {
                 parent: 0,
                 pid: 256,
@@ -69,6 +69,7 @@ fn holds_what_is_written(rt: HostRuntime) -> Result<(), Fail> {
                 service: 3,
             },
         ]
+        .as_slice()
     );
     Ok(())
 }

@@ -1,5 +1,6 @@
 // What a user of a memory writes: elements with a moment.
 #![tactic(auto)]
+
 use waiting::Moment;
 
 #[derive(Clone, Copy, PartialEq, Eq, Debug)]

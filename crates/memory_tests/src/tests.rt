@@ -31,71 +31,36 @@ fn memory(
     Ok(Memory::new(vec![in heap; Tick(0); entries]?, size, parents))
 }
 
-fn line_step(rt: &impl Abort, memory: &mut Memory<Tick>, step: Step) -> Result<(), Fail> {
+fn line_step(rt: &impl Abort, memory: &mut Memory<Tick>, i: usize, step: Step) {
     match step {
-        Step::Holds(p, t) => {
-            assert_eq!(rt; memory.hold(p, Tick(t)), Ok(()));
-            Ok(())
-        },
-        Step::Refuses(p, t) => {
-            assert_eq!(rt; memory.hold(p, Tick(t)), Err(Full));
-            Ok(())
-        },
-        Step::First(p, x) => {
-            assert_eq!(rt; memory.first(p).copied(), x);
-            Ok(())
-        },
-        Step::Takes(p, x) => {
-            assert_eq!(rt; memory.take(p), x);
-            Ok(())
-        },
-        Step::Counts(p, n) => {
-            assert_eq!(rt; memory.count(p), n);
-            Ok(())
-        },
-        Step::LetsGoBefore(p, since) => {
-            memory.let_go_before(p, since);
-            Ok(())
-        }
-        Step::Clears(p) => {
-            memory.clear(p);
-            Ok(())
-        }
-        _ => backlog_step(rt, memory, step),
+        Step::Holds(p, t) => assert_eq!(rt; memory.hold(p, Tick(t)), Ok(()), "step {i}"),
+        Step::Refuses(p, t) => assert_eq!(rt; memory.hold(p, Tick(t)), Err(Full), "step {i}"),
+        Step::First(p, x) => assert_eq!(rt; memory.first(p).copied(), x, "step {i}"),
+        Step::Takes(p, x) => assert_eq!(rt; memory.take(p), x, "step {i}"),
+        Step::Counts(p, n) => assert_eq!(rt; memory.count(p), n, "step {i}"),
+        Step::LetsGoBefore(p, since) => memory.let_go_before(p, since),
+        Step::Clears(p) => memory.clear(p),
+        _ => backlog_step(rt, memory, i, step),
     }
 }
 
-fn backlog_step(rt: &impl Abort, memory: &mut Memory<Tick>, step: Step) -> Result<(), Fail> {
+fn backlog_step(rt: &impl Abort, memory: &mut Memory<Tick>, i: usize, step: Step) {
     match step {
-        Step::Admits(t) => {
-            assert_eq!(rt; memory.admit(Tick(t)), Ok(()));
-            Ok(())
-        },
-        Step::Turns(t) => {
-            assert_eq!(rt; memory.admit(Tick(t)), Err(Full));
-            Ok(())
-        },
+        Step::Admits(t) => assert_eq!(rt; memory.admit(Tick(t)), Ok(()), "step {i}"),
+        Step::Turns(t) => assert_eq!(rt; memory.admit(Tick(t)), Err(Full), "step {i}"),
         Step::Next(x) => {
-            assert_eq!(rt; memory.front().copied(), x);
+            assert_eq!(rt; memory.front().copied(), x, "step {i}");
             memory.let_front_go();
-            Ok(())
         }
-        Step::Waits(n) => {
-            assert_eq!(rt; memory.waiting(), n);
-            Ok(())
-        },
-        _ => {
-            memory.empty_backlog();
-            Ok(())
-        }
+        Step::Waits(n) => assert_eq!(rt; memory.waiting(), n, "step {i}"),
+        _ => memory.empty_backlog(),
     }
 }
 
-fn follow(rt: &impl Abort, memory: &mut Memory<Tick>, steps: &[Step]) -> Result<(), Fail> {
+fn follow(rt: &impl Abort, memory: &mut Memory<Tick>, steps: &[Step]) {
     for (i, step) in steps.iter().enumerate() {
-        line_step(rt, memory, *step).note(format_args!("step {i}"))?;
+        line_step(rt, memory, i, *step);
     }
-    Ok(())
 }
 
 #[derive(Clone, Copy)]
@@ -178,7 +143,8 @@ fn lines_and_backlog_keep_apart(rt: HostRuntime) -> Result<(), Fail> {
             Step::Next(Some(Tick(3))),
             Step::Next(None),
         ],
-    )
+    );
+    Ok(())
 }
 
 #[test]
@@ -214,7 +180,8 @@ fn some_go_and_the_others_stay(rt: HostRuntime) -> Result<(), Fail> {
             Step::Takes(0, Some(Tick(30))),
             Step::Next(Some(Tick(50))),
         ],
-    )
+    );
+    Ok(())
 }
 
 // Where nothing has room, all are refused, and nothing waits.
@@ -234,5 +201,6 @@ fn no_slots(rt: HostRuntime) -> Result<(), Fail> {
             Step::Counts(0, 0),
             Step::Waits(0),
         ],
-    )
+    );
+    Ok(())
 }

@@ -15,6 +15,7 @@
 //   number TEXT PARENT PID             the number of the row in that configuration
 //   hear TEXT PARENT HEX               what that configuration's map makes of the packet
 #![tactic(auto)]
+
 use config::check::check;
 use config::row::Row;
 use config::table::Config;

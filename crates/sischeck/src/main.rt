@@ -2,6 +2,7 @@
 // The status is 0 for an accepted text and 1 for any other.
 // The text comes from the file that the one argument names, or from standard input.
 #![tactic(auto)]
+
 use anyhow::anyhow;
 use config::answer::answer_line;
 use std::alloc::Global;

@@ -21,37 +21,17 @@ fn take_step<T: Copy + Moment + PartialEq + Debug>(
     rt: &impl Abort,
     line: &mut Line<T>,
     slots: &mut [T],
+    i: usize,
     step: Step<T>,
-) -> Result<(), Fail> {
+) {
     match step {
-        Step::Joins(x) => {
-            assert_eq!(rt; line.join(slots, x), Ok(()));
-            Ok(())
-        },
-        Step::Refused(x) => {
-            assert_eq!(rt; line.join(slots, x), Err(Full));
-            Ok(())
-        },
-        Step::First(x) => {
-            assert_eq!(rt; line.first(slots), x);
-            Ok(())
-        },
-        Step::Takes(x) => {
-            assert_eq!(rt; line.take(slots), x);
-            Ok(())
-        },
-        Step::Counts(n) => {
-            assert_eq!(rt; line.count(slots), n);
-            Ok(())
-        },
-        Step::LetGoBefore(since) => {
-            line.let_go_before(slots, since);
-            Ok(())
-        }
-        Step::LetAllGo => {
-            line.let_all_go();
-            Ok(())
-        }
+        Step::Joins(x) => assert_eq!(rt; line.join(slots, x), Ok(()), "step {i}"),
+        Step::Refused(x) => assert_eq!(rt; line.join(slots, x), Err(Full), "step {i}"),
+        Step::First(x) => assert_eq!(rt; line.first(slots), x, "step {i}"),
+        Step::Takes(x) => assert_eq!(rt; line.take(slots), x, "step {i}"),
+        Step::Counts(n) => assert_eq!(rt; line.count(slots), n, "step {i}"),
+        Step::LetGoBefore(since) => line.let_go_before(slots, since),
+        Step::LetAllGo => line.let_all_go(),
     }
 }
 
@@ -59,16 +39,15 @@ fn follow<T: Copy + Moment + PartialEq + Debug>(
     rt: &impl Abort,
     slots: &mut [T],
     steps: &[Step<T>],
-) -> Result<(), Fail> {
+) {
     let mut line = Line::new();
     for (i, step) in steps.iter().enumerate() {
-        take_step(rt, &mut line, slots, *step).note(format_args!("step {i}"))?;
+        take_step(rt, &mut line, slots, i, *step);
     }
-    Ok(())
 }
 
 #[test]
-fn goes_round(rt: HostRuntime) -> Result<(), Fail> {
+fn goes_round(rt: HostRuntime) {
     let mut slots = [Tick(0); 3];
     follow(
         &rt,
@@ -89,11 +68,11 @@ fn goes_round(rt: HostRuntime) -> Result<(), Fail> {
             Step::Takes(Some(Tick(5))),
             Step::Takes(None),
         ],
-    )
+    );
 }
 
 #[test]
-fn no_slot_has_no_room(rt: HostRuntime) -> Result<(), Fail> {
+fn no_slot_has_no_room(rt: HostRuntime) {
     follow(
         &rt,
         &mut [],
@@ -106,11 +85,11 @@ fn no_slot_has_no_room(rt: HostRuntime) -> Result<(), Fail> {
             Step::LetAllGo,
             Step::Refused(Tick(1)),
         ],
-    )
+    );
 }
 
 #[test]
-fn one_slot_serves_again_and_again(rt: HostRuntime) -> Result<(), Fail> {
+fn one_slot_serves_again_and_again(rt: HostRuntime) {
     let mut slots = [Tick(0); 1];
     follow(
         &rt,
@@ -129,7 +108,7 @@ fn one_slot_serves_again_and_again(rt: HostRuntime) -> Result<(), Fail> {
             Step::Takes(Some(Tick(3))),
             Step::Counts(0),
         ],
-    )
+    );
 }
 
 fn packet(arrival: u64) -> Packet {
@@ -140,7 +119,7 @@ fn packet(arrival: u64) -> Packet {
 }
 
 #[test]
-fn those_before_a_moment_go(rt: HostRuntime) -> Result<(), Fail> {
+fn those_before_a_moment_go(rt: HostRuntime) {
     let mut slots = [packet(0); 4];
     follow(
         &rt,
@@ -167,11 +146,11 @@ fn those_before_a_moment_go(rt: HostRuntime) -> Result<(), Fail> {
             Step::LetGoBefore(41),
             Step::Takes(None),
         ],
-    )
+    );
 }
 
 #[test]
-fn letting_go_ends_at_the_first_that_stays(rt: HostRuntime) -> Result<(), Fail> {
+fn letting_go_ends_at_the_first_that_stays(rt: HostRuntime) {
     let mut slots = [Tick(0); 4];
     follow(
         &rt,
@@ -185,11 +164,11 @@ fn letting_go_ends_at_the_first_that_stays(rt: HostRuntime) -> Result<(), Fail> 
             Step::Takes(Some(Tick(2))),
             Step::Takes(None),
         ],
-    )
+    );
 }
 
 #[test]
-fn all_go_at_once(rt: HostRuntime) -> Result<(), Fail> {
+fn all_go_at_once(rt: HostRuntime) {
     let mut slots = [packet(0); 2];
     follow(
         &rt,
@@ -208,7 +187,7 @@ fn all_go_at_once(rt: HostRuntime) -> Result<(), Fail> {
             Step::Takes(Some(packet(4))),
             Step::Takes(Some(packet(5))),
         ],
-    )
+    );
 }
 
 // Over fewer slots than before a line is still a line of what those slots hold.

@@ -1,8 +1,7 @@
-use Rattle.std.proofs.Common.{◌≡◌, ◌<◌, [], ◌∷◌, length, sym, refl, ap, ◌∙◌, subst, arith}
+use Rattle.std.proofs.Common.{◌<◌, [], length, sym, refl, ◌∙◌, subst, arith}
 use Rattle.std.proofs.lemmas.List.{take_more, take_all, length-take-le, get_or_default}
 use Rattle.std.proofs.lemmas.Result.{IfOk-from_err}
 use Rattle.psi.specs.Packet.{Framed}
-use Rattle.carrier.specs.Meaning.{Carried}
 use Rattle.carrier.proofs.Carrying.{carried_more, not_refused}
 use Rattle.carrier_tests.proofs.copies.copy_all.Goals as goal
 
