@@ -1,13 +1,12 @@
 -- One admission, and one slot's use, for the loops that place a frame.
-use Rattle.std.proofs.Common.{◌≡◌, ℕ, zero, suc, ◌+◌, ◌-◌, ◌*◌, ◌/◌, ◌<◌, ◌≤◌, min, Bool, true, false, cond, eqb, ltb, ◌⊎◌, List, [], ◌∷◌, ◌++◌, map, length, get_or, set, sym, refl, ap, ◌∙◌, subst, ⊎_elim, arith}
+use Rattle.std.proofs.Common.{◌≡◌, ℕ, zero, suc, ◌+◌, ◌-◌, ◌*◌, ◌/◌, ◌<◌, ◌≤◌, min, Bool, true, false, cond, ltb, List, [], ◌∷◌, ◌++◌, map, length, get_or, sym, refl, ap, ◌∙◌, subst, ⊎_elim, arith}
 use Rattle.std.proofs.lemmas.Bool.{cases_lt, lt-ltb, le-ltb, eq-eqb, ne_eqb}
 use Rattle.memory.specs.Memory.{lines_in, backlog_in, size_in}
 use Rattle.memory.specs.declared.Memory.{Memory}
-use Rattle.rules.proofs.Merging.{Rising, Earliest, rising_rest, lines_start_at, length_merged_first}
+use Rattle.rules.proofs.Merging.{Rising, rising_rest, lines_start_at, length_merged_first}
 use Rattle.rules.proofs.Placing.{Admitting, admitting_joins, admitting_drops}
 use Rattle.rules.specs.Entries.{Entry}
 use Rattle.rules.specs.Entries.{from_on, merged}
-use Rattle.rules.specs.Invariants.{InOrder}
 use Rattle.rules.specs.Slots.{join, pat, use_among}
 use Rattle.adapter.specs.Placing.{First-in, AdmittedOne}
 use Rattle.adapter.specs.declared.place.Course.{Course}

@@ -1,9 +1,9 @@
 -- Parents that all have an anchor.
-use Rattle.std.proofs.Common.{◌≡◌, ℕ, zero, suc, ◌+◌, ◌<◌, ◌≤◌, max, Bool, true, false, List, [], ◌∷◌, map, length, get_or, Some, None, Option, sym, refl, ap, ◌∙◌, subst, inl, inr, arith}
+use Rattle.std.proofs.Common.{◌≡◌, ℕ, zero, suc, ◌<◌, ◌≤◌, max, true, List, [], ◌∷◌, map, length, get_or, Some, None, Option, sym, refl, ap, ◌∙◌, subst, inl, inr, arith}
 use Rattle.rules.specs.Entries.{Entry}
 use Rattle.rules.specs.Calls.{let_go, Reach, ShortOf}
 use Rattle.rules.specs.Entries.{from_on}
-use Rattle.rules.specs.State.{Hearing, Parent, latest}
+use Rattle.rules.specs.State.{Hearing, latest}
 use Rattle.rules.specs.Times.{stamped}
 use Rattle.adapter.specs.Parents.{stamp_of, parent_of, parents_by, hearings, moved, from_at, latest_below, HeardSo}
 use Rattle.adapter.specs.declared.times.Times.{Times}

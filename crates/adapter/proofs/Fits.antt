@@ -10,12 +10,11 @@ use Rattle.rules.specs.Entries.{Entry}
 use Rattle.rules.specs.Slots.{Frame}
 use Rattle.rules.specs.Calls as calls
 use Rattle.rules.specs.Calls.{InRange, records_from, let_go, admitted}
-use Rattle.rules.specs.Entries.{before, from_on, into, merge, merged}
+use Rattle.rules.specs.Entries.{into, merge, merged}
 use Rattle.rules.specs.Log.{Log, Leads, begins, next, Event, hear, loss, recorded, framed, Took}
 use Rattle.carrier.specs.Meaning.{Meaning}
 use Rattle.rules.specs.Slots.{turns_from, turns, waiting}
-use Rattle.rules.specs.State.{Hearing, State, Step, out, following, in_step, Parent, parent_at, power_up, lose, know, line_of, parents_of}
-use Rattle.rules.specs.Times.{stamped}
+use Rattle.rules.specs.State.{Hearing, State, Step, out, following, in_step, Parent, parent_at, lose, know, line_of, parents_of}
 use Rattle.adapter.specs.Placing.{Whole, AllWhole}
 use Rattle.adapter.proofs.Turns.{whole_before, whole_from_on, whole_append, whole_joins, whole_stays}
 

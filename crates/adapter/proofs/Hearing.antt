@@ -1,17 +1,17 @@
 -- From what became of a packet that was taken to the rule of `hear`.
-use Rattle.std.proofs.Common.{◌≡◌, ℕ, ◌<◌, ◌≤◌, Bool, true, false, cond, ◌⊎◌, List, [], ◌∷◌, ◌++◌, length, get_or, set, Some, None, Ok, Err, vec_items, Option, sym, refl, ap, ◌∙◌, subst, inl, inr, ⊎_elim, arith}
+use Rattle.std.proofs.Common.{◌≡◌, ℕ, ◌<◌, ◌≤◌, Bool, true, false, cond, List, [], ◌∷◌, ◌++◌, length, get_or, set, Some, None, Ok, Err, vec_items, Option, sym, refl, ap, ◌∙◌, subst, inl, inr, ⊎_elim, arith}
 use Rattle.std.proofs.lemmas.List.{get_or_default, set-get_or}
 use Rattle.config.specs.Setup.{Setup}
 use Rattle.memory.proofs.Shares.{length_lines}
 use Rattle.memory.specs.Memory.{line_in, lines_in, backlog_in}
 use Rattle.memory.specs.declared.Memory.{Memory}
 use Rattle.psi.specs.Packet.{Bytes, good_packet}
-use Rattle.psi.specs.Delivery.{Delivery, unmapped, unpatchable, deliverable, deliver}
+use Rattle.psi.specs.Delivery.{Delivery, deliverable, deliver}
 use Rattle.rules.specs.Entries.{Entry}
-use Rattle.rules.specs.Calls.{HearAnswer, passed_over, dropped_it, held_it, refused_hear, Listed, Arrives, Wanted, Hears, unwanted, unpatched, full, holds}
+use Rattle.rules.specs.Calls.{refused_hear, Listed, Arrives, Wanted, Hears, unwanted, unpatched, full, holds}
 use Rattle.rules.specs.State.{State, parent_at, line_of, line_room, know}
 use Rattle.rules.specs.Times.{Stamp, Stamps, stamped}
-use Rattle.adapter.specs.Answers.{hear_answer, number_of}
+use Rattle.adapter.specs.Answers.{hear_answer}
 use Rattle.adapter.specs.Fields.{state_from}
 use Rattle.adapter.specs.Keeping as keeping
 use Rattle.adapter.specs.Parents.{parent_of, parents_by, stamp_of}

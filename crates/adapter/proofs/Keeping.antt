@@ -1,5 +1,5 @@
 -- What every call keeps of the adapter's invariants.
-use Rattle.std.proofs.Common.{◌≡◌, ℕ, ◌<◌, ◌≤◌, min, Bool, true, false, cond, ◌&&◌, ltb, ◌≢◌, ◌⊎◌, List, [], ◌∷◌, ◌++◌, length, get_or, set, Some, None, vec_items, vec_len, Option, sym, refl, ap, ◌∙◌, subst, inl, inr, ⊎_elim, arith}
+use Rattle.std.proofs.Common.{◌≡◌, ℕ, ◌<◌, ◌≤◌, min, Bool, true, false, cond, ◌&&◌, ltb, ◌≢◌, List, [], ◌∷◌, ◌++◌, length, get_or, set, Some, None, vec_len, Option, sym, refl, ap, ◌∙◌, subst, ⊎_elim, arith}
 use Rattle.std.proofs.lemmas.List.{get_or-set_other, get_or-set_same, get_or_past, length-set}
 use Rattle.std.proofs.lemmas.Bool.{cases_eq, cases_lt, ltb-true, ltb-false}
 use Rattle.config.specs.Setup.{Setup, setup}
@@ -8,8 +8,8 @@ use Rattle.memory.specs.Memory.{entries_in, size_in, parents_in, room_in, line_i
 use Rattle.memory.specs.declared.Memory.{Memory}
 use Rattle.rules.specs.Entries.{Entry}
 use Rattle.rules.specs.Slots.{Frame}
-use Rattle.rules.specs.Calls.{RecordAnswer, queued, refused_record, Records, eight, queues, InRange, Follows}
-use Rattle.rules.specs.State.{State, Step, Parent, Roomy, line_room, line_of}
+use Rattle.rules.specs.Calls.{queued, refused_record, Records, eight, queues, InRange, Follows}
+use Rattle.rules.specs.State.{State, Roomy, line_room, line_of}
 use Rattle.adapter.specs.Parents.{parent_of}
 use Rattle.adapter.specs.declared.times.Times.{Times}
 use Rattle.adapter.proofs.Views.{state-≡}

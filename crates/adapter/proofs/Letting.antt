@@ -1,7 +1,7 @@
 -- Letting go and restarting, for all parents one after the other.
-use Rattle.std.proofs.Common.{◌≡◌, ℕ, suc, ◌+◌, ◌<◌, ◌≤◌, max, Bool, true, false, cond, ltb, ◌≢◌, ◌⊎◌, List, [], ◌∷◌, ◌++◌, map, length, get_or, drop, set, Some, None, Option, sym, refl, ap, ◌∙◌, subst, ⊎_elim, add-one, arith}
+use Rattle.std.proofs.Common.{◌≡◌, ℕ, ◌+◌, ◌<◌, ◌≤◌, max, true, cond, ltb, ◌≢◌, List, [], ◌∷◌, ◌++◌, map, length, get_or, drop, set, Some, None, Option, sym, refl, ap, ◌∙◌, subst, ⊎_elim, add-one, arith}
 use lib.ListN.{get_or-map}
-use Rattle.std.proofs.lemmas.List.{get_or_default, get_or-set_same, get_or-set_other, get_or_past, length-set, ext_get_or, length-map}
+use Rattle.std.proofs.lemmas.List.{get_or_default, get_or-set_same, get_or-set_other, length-set, ext_get_or, length-map}
 use Rattle.std.proofs.lemmas.Bool.{cases_eq, cases_lt}
 use Rattle.std.specs.Option.{option_to_list}
 use Rattle.waiting.specs.Waiting as waiting
@@ -9,7 +9,7 @@ use Rattle.rules.specs.Entries.{Entry}
 use Rattle.rules.specs.Slots.{Frame}
 use Rattle.rules.specs.Calls.{records_from}
 use Rattle.rules.specs.Entries.{from_on}
-use Rattle.rules.specs.Times.{Stamp, stamped}
+use Rattle.rules.specs.Times.{stamped}
 use Rattle.adapter.specs.Parents.{stamp_of, parent_of, moved, Restarted, from_at, latest_below, LatestSo, HeardSo}
 use Rattle.adapter.specs.declared.times.Times.{Times}
 

@@ -1,5 +1,5 @@
 -- A frame that was placed, by the rule of `frame`.
-use Rattle.std.proofs.Common.{◌≡◌, ℕ, ◌+◌, ◌<◌, ◌≤◌, Bool, true, false, List, [], ◌∷◌, map, length, get_or, drop, Some, None, Option, sym, refl, ap, ◌∙◌, subst, arith}
+use Rattle.std.proofs.Common.{◌≡◌, ℕ, ◌≤◌, Bool, true, false, List, [], ◌∷◌, map, length, drop, Some, Option, sym, refl, ap, ◌∙◌, subst}
 use Rattle.std.proofs.lemmas.List.{length-map}
 use Rattle.config.specs.Setup.{Setup}
 use Rattle.carrier.specs.Meaning.{Meaning}
@@ -13,11 +13,11 @@ use Rattle.rules.specs.Entries.{Entry}
 use Rattle.rules.specs.Slots.{Frame}
 use Rattle.rules.specs.Calls as calls
 use Rattle.rules.specs.Calls.{FrameAnswer, refused_frame, skipped, Frames, Due, Called, placed, frame_turns, followed_to, doubt_at, let_go, step_after}
-use Rattle.rules.specs.Entries.{from_on, merged}
+use Rattle.rules.specs.Entries.{from_on}
 use Rattle.rules.specs.Log.{framed, next}
 use Rattle.carrier.specs.Meaning.{Meaning}
-use Rattle.rules.specs.Slots.{Turn, end_of, played, waiting, dropped, doubt, reaches_zero}
-use Rattle.rules.specs.State.{Hearing, State, Parent, Step as RuleStep, out, following, in_step, latest}
+use Rattle.rules.specs.Slots.{end_of, played, dropped, doubt, reaches_zero}
+use Rattle.rules.specs.State.{Hearing, State, Parent, in_step}
 use Rattle.adapter.specs.Laws.{ClearAfter, EqualAfter}
 use Rattle.adapter.specs.Parents.{parents_by, Restarted}
 use Rattle.adapter.specs.Placing.{Goes, placed_answer, begun, turns_of_lines}

@@ -1,5 +1,5 @@
 -- What a complete log says of the lines of an adapter whose parents all have an anchor.
-use Rattle.std.proofs.Common.{◌≡◌, ℕ, zero, suc, ◌+◌, ◌*◌, ◌<◌, ◌≤◌, min, Bool, true, false, cond, leb, ◌⊎◌, List, [], ◌∷◌, map, length, get_or, Some, None, vec_items, Option, sym, refl, ap, ◌∙◌, subst, ⊎_elim, arith}
+use Rattle.std.proofs.Common.{◌≡◌, ℕ, zero, suc, ◌+◌, ◌*◌, ◌<◌, ◌≤◌, true, false, cond, leb, List, [], ◌∷◌, map, length, get_or, Some, None, Option, sym, refl, ap, ◌∙◌, subst, ⊎_elim, arith}
 use mathlib.Core.HLevel.{×_prop}
 use mathlib.Core.Logic.{∥∥₁_elim}
 use native.Mathlib.Bridge.{le_prop}
@@ -16,11 +16,11 @@ use Rattle.rules.specs.Entries.{Entry}
 use Rattle.rules.proofs.Fits.{fits, doubt_begins}
 use Rattle.rules.specs.Slots.{Frame}
 use Rattle.rules.specs.Calls.{AllHeard, doubt_at}
-use Rattle.rules.specs.Entries.{from_on, into, merge, merged}
-use Rattle.rules.specs.State.{Hearing, Step, out, following, in_step, parent_at}
+use Rattle.rules.specs.Entries.{into, merge, merged}
+use Rattle.rules.specs.State.{Hearing, Step, out, following, in_step}
 use Rattle.adapter.specs.Parents.{parent_of}
 use Rattle.adapter.specs.Placing.{AllWhole, begun}
-use Rattle.adapter.specs.View.{view, setup_of, entries_of, hearings_in}
+use Rattle.adapter.specs.View.{view, setup_of, entries_of}
 use Rattle.adapter.specs.declared.state.Adapter.{Adapter}
 use Rattle.adapter.specs.declared.times.Times.{Times}
 use Rattle.adapter.proofs.Fits.{LineWhole, fit, whole_merged}

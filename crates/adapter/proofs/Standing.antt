@@ -1,6 +1,5 @@
 -- What every adapter's invariants say, in the forms that `frame` needs.
-use Rattle.std.proofs.Common.{◌≡◌, ℕ, zero, suc, ◌+◌, ◌*◌, ◌<◌, ◌≤◌, min, Bool, true, false, cond, ◌⊎◌, List, [], ◌∷◌, map, length, get_or, Some, None, vec_items, Option, sym, refl, ap, ◌∙◌, subst, ⊎_elim, arith}
-use mathlib.Core.HLevel.{×_prop}
+use Rattle.std.proofs.Common.{◌≡◌, ℕ, zero, suc, ◌<◌, ◌≤◌, List, [], ◌∷◌, map, length, get_or, Some, None, vec_items, Option, sym, refl, ap, ◌∙◌, subst, ⊎_elim, arith}
 use mathlib.Core.Logic.{∥∥₁_elim}
 use native.Mathlib.Bridge.{le_prop}
 use Rattle.std.proofs.lemmas.List.{get_or_past, length-map}
@@ -11,10 +10,10 @@ use Rattle.memory.specs.declared.Memory.{Memory}
 use Rattle.waiting.specs.Waiting.{oldest}
 use Rattle.rules.specs.Entries.{Entry}
 use Rattle.rules.specs.Slots.{Frame}
-use Rattle.rules.specs.Calls.{AllHeard, InRange, Silent}
-use Rattle.rules.specs.State.{Hearing, Checked, parent_at}
-use Rattle.adapter.specs.Parents.{parent_of, parents_by, moved, Restarted}
-use Rattle.adapter.specs.View.{view, setup_of, entries_of, hearings_in}
+use Rattle.rules.specs.Calls.{AllHeard, Silent}
+use Rattle.rules.specs.State.{Hearing, Checked}
+use Rattle.adapter.specs.Parents.{parent_of, moved, Restarted}
+use Rattle.adapter.specs.View.{view, setup_of, entries_of}
 use Rattle.adapter.specs.declared.state.Adapter.{Adapter}
 use Rattle.adapter.specs.declared.times.Times.{Times}
 use Rattle.adapter.proofs.Anchored.{Known, length_parents}

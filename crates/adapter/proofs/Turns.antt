@@ -1,14 +1,14 @@
 -- One slot of a frame, for the loop that places it.
-use Rattle.std.proofs.Common.{◌≡◌, ℕ, zero, suc, ◌+◌, ◌-◌, ◌<◌, ◌≤◌, min, Bool, true, false, cond, ◌||◌, eqb, ltb, ◌⊎◌, List, [], ◌∷◌, ◌++◌, map, length, get_or, sym, refl, ap, ◌∙◌, subst, ⊎_elim, append_assoc, append-nil, arith, length-append}
-use Rattle.std.proofs.lemmas.Bool.{cases_lt, lt-ltb, le-ltb}
+use Rattle.std.proofs.Common.{◌≡◌, ℕ, suc, ◌+◌, ◌-◌, ◌<◌, ◌≤◌, min, Bool, true, false, cond, ◌||◌, eqb, ltb, List, [], ◌∷◌, ◌++◌, map, length, get_or, sym, refl, ap, ◌∙◌, subst, ⊎_elim, append_assoc, arith, length-append}
+use Rattle.std.proofs.lemmas.Bool.{cases_lt}
 use Rattle.config.specs.Setup.{Setup}
-use Rattle.carrier.specs.Meaning.{Meaning, Carried}
+use Rattle.carrier.specs.Meaning.{Meaning}
 use Rattle.carrier.proofs.Carrying.{carried_none, carried_more}
 use Rattle.memory.specs.Memory.{lines_in, backlog_in, size_in, SameShares}
 use Rattle.memory.specs.declared.Memory.{Memory}
 use Rattle.psi.specs.Packet.{Bytes}
-use Rattle.rules.proofs.Merging.{Rising, from_on_merged, from_on_first, from_on_all, in_order_rises, rising_at, rising_by}
-use Rattle.rules.proofs.Ordered.{Above, Rises, from_on_twice}
+use Rattle.rules.proofs.Merging.{Rising, from_on_merged, in_order_rises, rising_at, rising_by}
+use Rattle.rules.proofs.Ordered.{Rises, from_on_twice}
 use Rattle.rules.proofs.Placing.{Placing, placing_start, placing_end, rises_from_on, limit_more, limit_last}
 use Rattle.rules.specs.Entries.{Entry}
 use Rattle.rules.specs.Slots.{Frame}

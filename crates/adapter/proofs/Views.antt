@@ -1,7 +1,6 @@
 -- Parents and states put together from their parts.
-use Rattle.std.proofs.Common.{◌≡◌, ℕ, zero, suc, ◌<◌, ◌≤◌, List, [], ◌∷◌, length, get_or, set, replicate, Some, None, Option, sym, refl, ap, ◌∙◌, subst, arith}
+use Rattle.std.proofs.Common.{◌≡◌, ℕ, zero, suc, ◌<◌, ◌≤◌, List, [], ◌∷◌, length, get_or, set, replicate, None, Option, sym, refl, ap, subst, arith}
 use mathlib.Core.Logic.{∥∥₁_map}
-use lib.Seq.{set-get_or}
 use Rattle.config.specs.Setup.{Setup}
 use Rattle.rules.specs.Entries.{Entry}
 use Rattle.rules.specs.Slots.{Frame}

@@ -1,5 +1,5 @@
 -- The steps by which a frame is placed.
-use Rattle.std.specs.Prelude.{◌≡◌, ℕ, ◌+◌, ◌<◌, ◌≤◌, min, Bool, true, false, cond, ◌||◌, List, [], ◌∷◌, ◌++◌, map, length, Some, None, Option, ◌==◌, nat_lt, slice_index_or, slice_set}
+use Rattle.std.specs.Prelude.{◌≡◌, ℕ, ◌+◌, ◌<◌, ◌≤◌, min, Bool, true, false, cond, ◌||◌, List, [], ◌∷◌, map, length, Some, None, Option, ◌==◌, nat_lt, slice_index_or, slice_set}
 use Rattle.config.specs.Setup.{Setup}
 use Rattle.memory.specs.Memory.{lines_in, backlog_in, size_in, SameShares}
 use Rattle.memory.specs.declared.Memory.{Memory}
@@ -10,7 +10,7 @@ use Rattle.rules.specs.Entries.{Entry}
 use Rattle.rules.specs.Slots.{Frame}
 use Rattle.rules.specs.Entries.{before, from_on, merged}
 use Rattle.rules.specs.Invariants.{InOrder}
-use Rattle.rules.specs.Slots.{Use, pat, payload, Turn, join, joins, drops, stays, lowered, use_of, end_of, turns_from, played, waiting, dropped, doubt, reaches_zero}
+use Rattle.rules.specs.Slots.{Use, pat, payload, Turn, join, joins, drops, stays, lowered, use_of, end_of, turns_from, waiting, dropped, doubt, reaches_zero}
 use Rattle.rules.specs.Calls.{FrameAnswer, followed, added}
 use Rattle.rules.specs.State.{Step, out, following, in_step}
 use Rattle.adapter.specs.declared.place.Course.{Course}

@@ -1,5 +1,6 @@
 // The adapter: hears parents' packets, takes framing records and places frames.
 #![tactic(auto)]
+
 pub mod answer;
 mod due;
 mod place;

@@ -1,5 +1,6 @@
 // Site logs: the calls that the lines of a log write, and a site that takes them.
 #![tactic(auto)]
+
 pub mod call;
 pub mod fault;
 pub mod hex;

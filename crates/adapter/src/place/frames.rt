@@ -60,9 +60,9 @@ pub(crate) fn place<C: Carrier>(
     requires all_whole { AllWhole (merged (lines_in memory.old)) × AllWhole (backlog_in memory.old) }
     requires slots_nonzero { (0 < frame.now.slots) × (frame.now.slots ≤ 4096) × (frame.now.start ≤ 2 ^ 60) }
     requires doubt_le_backlog { doubt ≤ config.now.backlog }
-    requires slots_bound { adding ≡ true → frame.now.slots ≤ (meaning carrier.old).free }
+    requires slots_bound { adding ≡ true → frame.now.slots ≤ (C.meaning carrier.old).free }
     ensures placed { PlacedSo (setup config.now) frame.now doubt memory.old memory.new result }
-    ensures carried { Goes meaning adding (played (setup config.now) frame.now.number (turns_of_lines (setup config.now) frame.now (lines_in memory.old)) (backlog_in memory.old)) carrier.old carrier.new }
+    ensures carried { Goes C.meaning adding (played (setup config.now) frame.now.number (turns_of_lines (setup config.now) frame.now (lines_in memory.old)) (backlog_in memory.old)) carrier.old carrier.new }
 {
     let mut course = Course {
         drops: 0,

@@ -106,9 +106,9 @@ pub(crate) fn fill<C: Carrier>(
     carrier: &mut C,
 ) -> Course
     requires all_whole { AllWhole (backlog_in memory.old) }
-    requires free_nonzero { adding ≡ true → 0 < (meaning carrier.old).free }
+    requires free_nonzero { adding ≡ true → 0 < (C.meaning carrier.old).free }
     ensures filled { Filled (setup config.now) frame.now slot memory.old memory.new course result }
-    ensures goes { Goes meaning adding (leaves (setup config.now) frame.now.number (use_of (setup config.now) frame.now slot) (backlog_in memory.old) ∷ []) carrier.old carrier.new }
+    ensures goes { Goes C.meaning adding (leaves (setup config.now) frame.now.number (use_of (setup config.now) frame.now slot) (backlog_in memory.old) ∷ []) carrier.old carrier.new }
 {
     let doubt = match copy_at(config, frame, slot) {
         Some(i) => {
@@ -130,8 +130,8 @@ pub(crate) fn fill<C: Carrier>(
 // The backlog's first packet goes to the carrier or nowhere, or stuffing where none waits.
 fn hand_front<C: Carrier>(memory: &mut Memory<Entry>, adding: bool, carrier: &mut C)
     requires all_whole { AllWhole (backlog_in memory.old) }
-    requires free_nonzero { adding ≡ true → 0 < (meaning carrier.old).free }
-    ensures goes { Goes meaning adding (or_stuffing (choose (backlog_in memory.old)).0 ∷ []) carrier.old carrier.new }
+    requires free_nonzero { adding ≡ true → 0 < (C.meaning carrier.old).free }
+    ensures goes { Goes C.meaning adding (or_stuffing (choose (backlog_in memory.old)).0 ∷ []) carrier.old carrier.new }
     ensures backlog { backlog_in memory.new ≡ (choose (backlog_in memory.old)).1 }
     ensures rest { OnlyBacklog memory.old memory.new }
 {
@@ -145,8 +145,8 @@ fn hand_front<C: Carrier>(memory: &mut Memory<Entry>, adding: bool, carrier: &mu
 // A packet goes to a carrier that has a place for it, or nowhere.
 fn hand<C: Carrier>(packet: &[u8], adding: bool, carrier: &mut C)
     requires whole { Whole packet.now }
-    requires free_nonzero { adding ≡ true → 0 < (meaning carrier.old).free }
-    ensures { Goes meaning adding (packet.now ∷ []) carrier.old carrier.new }
+    requires free_nonzero { adding ≡ true → 0 < (C.meaning carrier.old).free }
+    ensures { Goes C.meaning adding (packet.now ∷ []) carrier.old carrier.new }
 {
     if adding {
         let _ = carrier.put(packet);

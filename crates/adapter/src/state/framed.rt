@@ -58,8 +58,8 @@ impl Adapter {
     // Places a frame: in step its packets go to the carrier. Answers its number and how many packets were dropped in it.
     fn place_now<C: Carrier>(&mut self, frame: Frame, carrier: &mut C) -> (u32, u32)
         requires placeable_now { PlaceableNow self.old frame }
-        requires slots_bound { adds_in self.old.step ≡ true → frame.slots ≤ (meaning carrier.old).free }
-        ensures rule { Frames (setup_of self.old) (entries_of self.old) (view self.old) (meaning carrier.old) (placed_answer (adds_in self.old.step) result.0 result.1) (view self.new) (meaning carrier.new) }
+        requires slots_bound { adds_in self.old.step ≡ true → frame.slots ≤ (C.meaning carrier.old).free }
+        ensures rule { Frames (setup_of self.old) (entries_of self.old) (view self.old) (C.meaning carrier.old) (placed_answer (adds_in self.old.step) result.0 result.1) (view self.new) (C.meaning carrier.new) }
         ensures same { KeptSetup self.old self.new }
         ensures kept { adds_in self.old.step ≡ false → carrier.new ≡ carrier.old }
     {
@@ -86,11 +86,11 @@ impl Adapter {
 
     // The oldest record's frame: skipped, or placed; in step its packets go to the carrier.
     pub fn frame<C: Carrier>(&mut self, carrier: &mut C) -> Result<Framed, Refusal>
-        ensures rule { Frames (setup_of self.old) (entries_of self.old) (view self.old) (meaning carrier.old) (frame_answer result) (view self.new) (meaning carrier.new) }
+        ensures rule { Frames (setup_of self.old) (entries_of self.old) (view self.old) (C.meaning carrier.old) (frame_answer result) (view self.new) (C.meaning carrier.new) }
         ensures same { KeptSetup self.old self.new }
         ensures untouched { UnlessAdded (frame_answer result) (carrier.new ≡ carrier.old) }
-        ensures clear { ClearAfter (setup_of self.old) (entries_of self.old) (view self.old) (meaning carrier.old) (frame_answer result) (meaning carrier.new) }
-        ensures equal { EqualAfter (setup_of self.old) (entries_of self.old) (view self.old) (meaning carrier.old) (frame_answer result) (meaning carrier.new) }
+        ensures clear { ClearAfter (setup_of self.old) (entries_of self.old) (view self.old) (C.meaning carrier.old) (frame_answer result) (C.meaning carrier.new) }
+        ensures equal { EqualAfter (setup_of self.old) (entries_of self.old) (view self.old) (C.meaning carrier.old) (frame_answer result) (C.meaning carrier.new) }
     {
         let frame = match self.due() {
             Due::Refused(refusal) => return Err(refusal),

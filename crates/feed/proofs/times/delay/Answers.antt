@@ -1,4 +1,4 @@
-use Rattle.std.proofs.Common.{arith, rules}
+use Rattle.std.proofs.Common.{rules}
 use native.Mathlib.Nat.{div-zero}
 use Rattle.rules.specs.Times.{after}
 use Rattle.feed.proofs.times.delay.Goals as goal

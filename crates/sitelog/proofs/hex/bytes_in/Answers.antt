@@ -5,17 +5,17 @@ use Rattle.sitelog.proofs.hex.bytes_in.Goals as goal
 pub loop-i-init : goal.loop-i-init
 loop-i-init c = begins c.args.word.now (vec_items c.new-bytes.result) c.new-bytes.ensures.items
 
-pub returns-in-default : goal.returns-in-default
-returns-in-default c =
+pub returns-in_default : goal.returns-in_default
+returns-in_default c =
     let w = c.args.word.now in
     let i = c.loop-i.i in
     bytes_are w c.if-same.ensures c.if-word-eq0.false ∙ c.loop-i.invariant
-    ∙ wrong_pair w i (omega arith) (vec_items c.loop-i.bytes) (sym c.in-default.ensures)
+    ∙ wrong_pair w i (omega arith) (vec_items c.loop-i.bytes) (sym c.in_default.ensures)
 
 pub loop-i-preserved : goal.loop-i-preserved
 loop-i-preserved c =
     c.loop-i.invariant
-    ∙ right_pair c.args.word.now c.loop-i.i (omega arith) (vec_items c.loop-i.bytes) (vec_items c.push.new.self) c.in-Some.byte (sym c.in-Some.ensures) c.in-ok-push.ensures.items
+    ∙ right_pair c.args.word.now c.loop-i.i (omega arith) (vec_items c.loop-i.bytes) (vec_items c.push.new.self) c.in-Some.byte (sym c.in-Some.ensures) c.in_ok-push.ensures.items
 
 pub returns-then-word-eq1 : goal.returns-then-word-eq1
 returns-then-word-eq1 c =

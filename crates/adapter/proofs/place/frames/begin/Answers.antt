@@ -1,4 +1,4 @@
-use Rattle.std.proofs.Common.{◌≡◌, List, [], ◌∷◌, map, sym, refl, ap, ◌∙◌, subst}
+use Rattle.std.proofs.Common.{◌≡◌, List, [], ◌∷◌, map, sym, refl, ap, subst}
 use Rattle.config.specs.Setup.{setup}
 use Rattle.memory.specs.Memory.{lines_in}
 use Rattle.rules.specs.Entries.{Entry}

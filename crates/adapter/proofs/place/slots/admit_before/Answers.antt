@@ -1,8 +1,7 @@
-use Rattle.std.proofs.Common.{◌≡◌, ◌<◌, List, [], ◌∷◌, length, get_or, sym, refl, ap, ◌∙◌, subst, arith}
+use Rattle.std.proofs.Common.{◌≡◌, List, [], ◌∷◌, get_or, sym, refl, ◌∙◌, arith}
 use Rattle.memory.specs.Memory.{lines_in, line_in}
 use Rattle.rules.proofs.Merging.{rising_by, in_order_rises, length_merged_first}
 use Rattle.rules.proofs.Placing.{admitting_start, admitting_end, settled, lines_after}
-use Rattle.rules.specs.Entries.{merged}
 use Rattle.rules.specs.Entries.{Entry}
 use Rattle.adapter.specs.Placing.{AdmittedOne}
 use Rattle.adapter.proofs.Admissions.{admit_step, rises_on, later_stay, one_fewer, drops_fit}
@@ -13,8 +12,8 @@ use Rattle.adapter.proofs.place.slots.admit_before.Goals as goal
 pub loop-p-init : goal.loop-p-init
 loop-p-init c =
     let m = c.args.memory.now in (
-      admitting_start _ _ _ _ _ _ c.requires.4,
-      rising_by (lines_in m) (λ q k. in_order_rises (get_or (lines_in m) q []) (c.requires.2 q)),
+      admitting_start _ _ _ _ _ _ c.requires.doubt_bound,
+      rising_by (lines_in m) (λ q k. in_order_rises (get_or (lines_in m) q []) (c.requires.lines_in_order q)),
       refl,
       omega arith,
       refl,
@@ -70,4 +69,9 @@ admit_one-course-requires c =
     let first = c.in-Some.ensures.1 in
     let l = front (get_or ls c.in-Some.p []) c.in-Some.ensures.0 first.first in
     let more = length_merged_first ls c.in-Some.p c.in-Some.ensures.0 l.0 i.1 (earliest c.args.limit ls c.in-Some.p c.in-Some.ensures.0 l.0 first l.1) in
-    (c.requires.1 ∙ sym i.5.size, omega (arith, i.3, c.requires.3), omega (arith, i.0.low, i.5.size), c.requires.5)
+    record {
+      size_value = c.requires.size_value ∙ sym i.5.size;
+      drops_bound = omega (arith, i.3, c.requires.memory_bound);
+      doubt_bound = omega (arith, i.0.low, i.5.size);
+      size_bound = c.requires.size_bound;
+    }

@@ -1,4 +1,4 @@
-use Rattle.std.proofs.Common.{◌≡◌, ◌-◌, ◌*◌, ◌/◌, ◌<◌, ◌≤◌, Some, sym, ap, ◌∙◌, mul-le-mul, arith}
+use Rattle.std.proofs.Common.{◌≡◌, ◌-◌, ◌*◌, ◌/◌, ◌≤◌, sym, ap, ◌∙◌, mul-le-mul, arith}
 use Rattle.rules.specs.Slots.{use_among}
 use Rattle.adapter.specs.Placing.{copy_of}
 use Rattle.adapter.proofs.Admissions.{use_no, use_yes}
@@ -6,7 +6,7 @@ use Rattle.adapter.proofs.place.slots.copy_at.Goals as goal
 
 pub overflow_mul-from : goal.overflow_mul-from
 overflow_mul-from c =
-    let a : c.from.result ≤ 4294967295 = omega (arith, c.loop-i.invariant.1, c.copies-copies.type-inv) in
+    let a : c.from.result ≤ 4294967295 = omega (arith, c.loop-i.invariant.1, c.copies-copies.type_inv) in
     let b : c.from-in-loop-i.result ≤ 4294967295 = omega arith in
     omega (arith, mul-le-mul a b)
 

@@ -16,13 +16,14 @@ loop-p-preserved c =
     let ls = lines_in c.args.memory.now in
     elim c.match-first.branch [
       | in-Some+then-entry-bound w ↦
-          same c.args.limit (c.loop-p.p + 1) ls w.bound-is w.next_is
-          (best_changes c.args.limit c.loop-p.p ls c.loop-p.bound c.loop-p.next w.in-Some.entry.now c.loop-p.invariant (sym c.first.ensures ∙ ap (option_map (λ y. y.now)) w.in-Some.is) w.if-entry-bound.true)
+          let at : w.entry.inside.arrival ≡ w.in-Some.entry.now.arrival = ap (λ e. e.arrival) w.entry.view_is in
+          same c.args.limit (c.loop-p.p + 1) ls (w.bound-is ∙ at) w.next-is
+          (best_changes c.args.limit c.loop-p.p ls c.loop-p.bound c.loop-p.next w.in-Some.entry.now c.loop-p.invariant (sym c.first.ensures ∙ ap (option_map (λ y. y.now)) w.in-Some.is) (omega (arith, at, w.if-entry-bound.true)))
       | in-Some+else-entry-bound w ↦
-          same c.args.limit (c.loop-p.p + 1) ls w.bound-is w.next_is
-          (best_stays c.args.limit c.loop-p.p ls c.loop-p.bound c.loop-p.next w.in-Some.entry.now c.loop-p.invariant (sym c.first.ensures ∙ ap (option_map (λ y. y.now)) w.in-Some.is) w.if-entry-bound.false)
+          same c.args.limit (c.loop-p.p + 1) ls w.bound-is w.next-is
+          (best_stays c.args.limit c.loop-p.p ls c.loop-p.bound c.loop-p.next w.in-Some.entry.now c.loop-p.invariant (sym c.first.ensures ∙ ap (option_map (λ y. y.now)) w.in-Some.is) (omega (arith, ap (λ e. e.arrival) w.entry.view_is, w.if-entry-bound.false)))
       | in_default w ↦
-          same c.args.limit (c.loop-p.p + 1) ls w.bound-is w.next_is
+          same c.args.limit (c.loop-p.p + 1) ls w.bound-is w.next-is
           (best_empty c.args.limit c.loop-p.p ls c.loop-p.bound c.loop-p.next c.loop-p.invariant (sym c.first.ensures ∙ ap (option_map (λ y. y.now)) w.in_default.is))
     ]
 

@@ -1,4 +1,4 @@
-use Rattle.std.proofs.Common.{◌≡◌, true, false, cond, ltb, length, is_ok, Some, sym, refl, ap, ◌∙◌, arith}
+use Rattle.std.proofs.Common.{◌≡◌, true, false, cond, ltb, length, is_ok, Some, sym, ap, ◌∙◌, arith}
 use Rattle.waiting.specs.Waiting.{waits}
 use Rattle.adapter.specs.Queue.{waiting_in}
 use Rattle.adapter.proofs.records.Records.queue.Goals as goal

@@ -1,7 +1,7 @@
-use Rattle.std.proofs.Common.{◌≡◌, ℕ, ◌+◌, ◌<◌, ◌≤◌, true, false, List, ◌∷◌, length, Some, sym, refl, ap, ◌∙◌, subst, arith}
+use Rattle.std.proofs.Common.{◌≡◌, ℕ, ◌+◌, ◌<◌, true, List, ◌∷◌, length, Some, sym, refl, ap, ◌∙◌, subst, arith}
 use Rattle.memory.specs.Memory.{lines_in}
 use Rattle.rules.specs.Slots.{Frame}
-use Rattle.rules.specs.Calls.{Called, Due}
+use Rattle.rules.specs.Calls.{Called}
 use Rattle.rules.specs.Slots.{end_of}
 use Rattle.rules.specs.State.{latest}
 use Rattle.adapter.specs.Parents.{latest_below, LatestSo, HeardSo}
@@ -51,15 +51,15 @@ returns-then-frame-since c =
       frame = c.in-Some.frame;
       rest = (first d).0;
       called = called d c.in-Some-latest.since so;
-      early = omega (arith, is);
-      numbered = refl;
+      early = omega (arith, is, ap (λ f. f.start) c.frame.view_is);
+      numbered = ap (λ f. f.number) c.frame.view_is;
       is = is;
     }
 
 pub overflow_add-end : goal.overflow_add-end
 overflow_add-end c =
     let d = (goal.at.overflow_add-end c).After-latest in
-    omega (arith, start_low c.args.self.now c.in-Some.frame (first d).0 (first d).1, c.ticks.ensures, c.from.ensures, c.args.self.now.config.settings.0)
+    omega (arith, ap (λ f. f.start) c.frame.view_is, start_low c.args.self.now c.in-Some.frame (first d).0 (first d).1, c.ticks.ensures, c.from.ensures, c.args.self.now.config.settings.0)
 
 pub returns-then-not-heard_until : goal.returns-then-not-heard_until
 returns-then-not-heard_until c =
@@ -67,9 +67,9 @@ returns-then-not-heard_until c =
     let d = (goal.at.returns-then-not-heard_until c).After-latest in
     let so = c.in-Some-latest.ensures in
     let is = (anchored d c.in-Some-latest.since so).1 in
-    let one = subst (HeardSo (c.in-Some.frame.start + c.from.result) a.heard (length c.rates-parents.result.now)) c.if-not-heard_until.true c.heard_until.ensures in
-    let end : c.in-Some.frame.start + c.from.result ≡ end_of (setup_of a) c.in-Some.frame = ap (λ t. c.in-Some.frame.start + t) (c.from.ensures ∙ c.ticks.ensures) in
-    unheard c.in-Some.frame (first d).0 (called d c.in-Some-latest.since so) (omega (arith, is))
+    let one = subst (HeardSo (c.frame.inside.start + c.from.result) a.heard (length c.rates-parents.result.now)) c.if-not-heard_until.true c.heard_until.ensures in
+    let end : c.frame.inside.start + c.from.result ≡ end_of (setup_of a) c.in-Some.frame = ap (λ s. s + c.from.result) (ap (λ f. f.start) c.frame.view_is) ∙ ap (λ t. c.in-Some.frame.start + t) (c.from.ensures ∙ c.ticks.ensures) in
+    unheard c.in-Some.frame (first d).0 (called d c.in-Some-latest.since so) (omega (arith, is, ap (λ f. f.start) c.frame.view_is))
     (short_heard (end_of (setup_of a) c.in-Some.frame) a.heard (lines_in a.memory) one.0 one.1 (omega (arith, one.2, many d)) one.3 (subst (λ e. one.1.heard_to < e) end one.4))
     refl
 
@@ -79,14 +79,14 @@ returns c =
     let d = (goal.at.returns c).After-latest in
     let so = c.in-Some-latest.ensures in
     let is = (anchored d c.in-Some-latest.since so).1 in
-    let all = subst (HeardSo (c.in-Some.frame.start + c.from.result) a.heard (length c.rates-parents.result.now)) c.if-not-heard_until.false c.heard_until.ensures in
-    let end : c.in-Some.frame.start + c.from.result ≡ end_of (setup_of a) c.in-Some.frame = ap (λ t. c.in-Some.frame.start + t) (c.from.ensures ∙ c.ticks.ensures) in
+    let all = subst (HeardSo (c.frame.inside.start + c.from.result) a.heard (length c.rates-parents.result.now)) c.if-not-heard_until.false c.heard_until.ensures in
+    let end : c.frame.inside.start + c.from.result ≡ end_of (setup_of a) c.in-Some.frame = ap (λ s. s + c.from.result) (ap (λ f. f.start) c.frame.view_is) ∙ ap (λ t. c.in-Some.frame.start + t) (c.from.ensures ∙ c.ticks.ensures) in
     record {
       rest = (first d).0;
       due =
           record {
             called = called d c.in-Some-latest.since so;
-            not_early = omega (arith, is);
+            not_early = omega (arith, is, ap (λ f. f.start) c.frame.view_is);
             heard =
                 reach_heard (end_of (setup_of a) c.in-Some.frame) a.heard (lines_in a.memory)
                 (subst (λ n. HeardSo (end_of (setup_of a) c.in-Some.frame) a.heard n true) (many d) (subst (λ e. HeardSo e a.heard (length c.rates-parents.result.now) true) end all));

@@ -37,25 +37,14 @@ pub invariant_of-self : goal.invariant_of-self
 invariant_of-self c =
     let a = c.args.self.now in
     let low : c.args.parent < length (vec_items a.config.rates) = c.requires.listed in
-    let shared = still_shared a.config _ _ (shares c) (a.parents, a.size, a.room) in (
-      length-set a.heard c.args.parent None ∙ a.places,
-      (
-        shared.0,
-        (
-          shared.1,
-          (
-            shared.2,
-            (
-              quiet_set a.heard a.memory _ c.args.parent None [] (omega (arith, a.config.parents.0, a.places)) (lines c) (λ e. refl) a.quiet,
-              (
-                reached_by (loss c.args.parent lost) (shares c).entries (loses c.requires refl (left c)) a.reached,
-                tt,
-              ),
-            ),
-          ),
-        ),
-      ),
-    )
+    let shared = still_shared a.config _ _ (shares c) (a.parents, a.size, a.room) in record {
+      places = length-set a.heard c.args.parent None ∙ a.places;
+      parents = shared.0;
+      size = shared.1;
+      room = shared.2;
+      quiet = quiet_set a.heard a.memory _ c.args.parent None [] (omega (arith, a.config.parents.0, a.places)) (lines c) (λ e. refl) a.quiet;
+      reached = reached_by (loss c.args.parent lost) (shares c).entries (loses c.requires refl (left c)) a.reached;
+    }
 
 pub returns : goal.returns
 returns c =

@@ -1,4 +1,4 @@
-use Rattle.std.proofs.Common.{◌≡◌, sym, refl, ap, ◌∙◌, subst, arith}
+use Rattle.std.proofs.Common.{sym, refl, ap, ◌∙◌, subst, arith}
 use Rattle.rules.specs.Calls as calls
 use Rattle.rules.specs.Calls.{Frames, crowded}
 use Rattle.adapter.specs.Placing.{placed_answer}
@@ -24,7 +24,7 @@ returns-then-free-frame g c =
     let k = (g.C.Carrier.meaning c.args.carrier.now) in
     let due = c.in-Places.ensures in
     let rule : Frames (setup_of a) (entries_of a) (view a) k (calls.refused_frame 14) (view a) k =
-    crowded c.in-Places.frame due.rest (hearings_in a) due.due (in_step_is a.step (sym c.adds-adding.ensures ∙ c.if-adding.true)) (omega (arith, c.free.ensures)) refl refl refl in
+    crowded c.in-Places.frame due.rest (hearings_in a) due.due (in_step_is a.step (sym c.adds-adding.ensures ∙ c.if-adding.true)) (omega (arith, c.free.ensures, ap (λ f. f.slots) c.frame.view_is)) refl refl refl in
     record { rule = rule; same = record { config = refl; entries = refl }; untouched = refl; clear = clear_holds a _ _ _ _ rule; equal = equal_holds a _ _ _ _ rule }
 
 pub returns-then-adding-2 : goal.returns-then-adding-2

@@ -1,4 +1,4 @@
-use Rattle.std.proofs.Common.{◌≡◌, ℕ, get_or, set, Some, Ok, Err, sym, refl, ap, ◌∙◌, subst, arith}
+use Rattle.std.proofs.Common.{◌≡◌, ℕ, set, Some, Ok, Err, sym, refl, ap, ◌∙◌, subst, arith}
 use Rattle.std.proofs.lemmas.List.{length-set}
 use Rattle.std.proofs.lemmas.Result.{err_from_is_err_and}
 use Rattle.memory.specs.Memory.{line_in, room_in}
@@ -56,42 +56,31 @@ invariant_of-self c =
     let listed = c.in_ok-listed.ensures in
     let m = c.keep.new.memory in
     let rest = c.keep.ensures.rest in
-    let stays = full_stays _ c.in-err-heard.ensures.rule in
+    let stays = full_stays _ c.in_err-heard-in-Taken.ensures.rule in
     let shared = still_shared a.config _ _ rest.shares (a.parents, a.size, a.room) in
-    let state = same_state a c.args.parent listed m c.keep.ensures.lines stays rest.backlog in (
-      a.places,
-      (
-        shared.0,
-        (
-          shared.1,
-          (
-            shared.2,
-            (
-              quiet_same a.heard a.memory m (same_lines a c.args.parent listed m c.keep.ensures.lines stays) a.quiet,
-              (
-                subst (λ n. Reached (setup_of a) n (state_from m a.heard a.records a.step)) (sym rest.shares.entries) (subst (Reached (setup_of a) (entries_of a)) (sym state) a.reached),
-                tt,
-              ),
-            ),
-          ),
-        ),
-      ),
-    )
+    let state = same_state a c.args.parent listed m c.keep.ensures.lines stays rest.backlog in record {
+      places = a.places;
+      parents = shared.0;
+      size = shared.1;
+      room = shared.2;
+      quiet = quiet_same a.heard a.memory m (same_lines a c.args.parent listed m c.keep.ensures.lines stays) a.quiet;
+      reached = subst (λ n. Reached (setup_of a) n (state_from m a.heard a.records a.step)) (sym rest.shares.entries) (subst (Reached (setup_of a) (entries_of a)) (sym state) a.reached);
+    }
 
-pub returns-in-err-heard : goal.returns-in-err-heard
-returns-in-err-heard c =
+pub returns-in_err-heard-in-Taken : goal.returns-in_err-heard-in-Taken
+returns-in_err-heard-in-Taken c =
     let a = c.args.self.now in
     let listed = c.in_ok-listed.ensures in
     let m = c.keep.new.memory in
-    let k = (goal.at.returns-in-err-heard c).After-keep in
+    let k = (goal.at.returns-in_err-heard-in-Taken c).After-keep in
     let rest = c.keep.ensures.rest in
-    let stays = full_stays _ c.in-err-heard.ensures.rule in
+    let stays = full_stays _ c.in_err-heard-in-Taken.ensures.rule in
     let state = same_state a c.args.parent listed m c.keep.ensures.lines stays rest.backlog in
-    let err = err_from_is_err_and c.from-residual-in-err-heard.result c.from-residual-in-err-heard.ensures.1 in
+    let err = err_from_is_err_and c.from_residual-in_err-heard-in-Taken.result c.from_residual-in_err-heard-in-Taken.ensures.1 in
     record {
       rule =
           subst (λ r. Hears (setup_of a) (entries_of a) (view a) c.args.parent c.args.packet.now c.args.time (hear_answer r) (state_from m a.heard a.records a.step)) (sym (err.1 ∙ ap Err err.2))
-          (heard_full _ _ _ _ _ _ _ _ _ _ _ (arrives k) (maps k) a.room (line_is a c.args.parent listed) _ _ c.in-err-heard.ensures.rule state);
+          (heard_full _ _ _ _ _ _ _ _ _ _ _ (arrives k) (maps k) a.room (line_is a c.args.parent listed) _ _ c.in_err-heard-in-Taken.ensures.rule state);
       same = record { config = refl; entries = rest.shares.entries };
     }
 
@@ -111,29 +100,18 @@ invariant_of-self-in-Taken c =
     let a = c.args.self.now in
     let k = (goal.at.invariant_of-self-in-Taken c).After-keep in
     let rest = c.keep.ensures.rest in
-    let shared = still_shared a.config _ _ rest.shares (a.parents, a.size, a.room) in (
-      length-set a.heard c.args.parent (Some c.in-Taken.times) ∙ a.places,
-      (
-        shared.0,
-        (
-          shared.1,
-          (
-            shared.2,
-            (
-              quiet_set a.heard a.memory _ c.args.parent (Some c.in-Taken.times) _ (has_place a c.args.parent c.in_ok-listed.ensures) c.keep.ensures.lines (λ e. let z : ◌≡◌ {A = ℕ} 0 1 = cc in absurd (omega arith)) a.quiet,
-              (
-                reached_by (hear c.args.parent c.args.packet.now c.args.time (hear_answer (Ok c.in-ok-heard.heard))) rest.shares.entries (rule k c.in-ok-heard.heard c.in-ok-heard.ensures.rule) a.reached,
-                tt,
-              ),
-            ),
-          ),
-        ),
-      ),
-    )
+    let shared = still_shared a.config _ _ rest.shares (a.parents, a.size, a.room) in record {
+      places = length-set a.heard c.args.parent (Some c.in-Taken.times) ∙ a.places;
+      parents = shared.0;
+      size = shared.1;
+      room = shared.2;
+      quiet = quiet_set a.heard a.memory _ c.args.parent (Some c.in-Taken.times) _ (has_place a c.args.parent c.in_ok-listed.ensures) c.keep.ensures.lines (λ e. let z : ◌≡◌ {A = ℕ} 0 1 = cc in absurd (omega arith)) a.quiet;
+      reached = reached_by (hear c.args.parent c.args.packet.now c.args.time (hear_answer (Ok c.in_ok-heard-in-Taken.heard))) rest.shares.entries (rule k c.in_ok-heard-in-Taken.heard c.in_ok-heard-in-Taken.ensures.rule) a.reached;
+    }
 
-pub returns-in-ok-heard : goal.returns-in-ok-heard
-returns-in-ok-heard c =
+pub returns-in_ok-heard-in-Taken : goal.returns-in_ok-heard-in-Taken
+returns-in_ok-heard-in-Taken c =
     record {
-      rule = rule (goal.at.returns-in-ok-heard c).After-keep c.in-ok-heard.heard c.in-ok-heard.ensures.rule;
+      rule = rule (goal.at.returns-in_ok-heard-in-Taken c).After-keep c.in_ok-heard-in-Taken.heard c.in_ok-heard-in-Taken.ensures.rule;
       same = record { config = refl; entries = c.keep.ensures.rest.shares.entries };
     }

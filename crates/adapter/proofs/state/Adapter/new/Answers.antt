@@ -1,13 +1,12 @@
-use Rattle.std.proofs.Common.{◌≡◌, ℕ, zero, suc, ◌-◌, ◌/◌, ◌≤◌, min, List, [], ◌∷◌, length, get_or, replicate, None, vec_items, vec_len, Option, sym, refl, ap, ◌∙◌, subst, arith}
+use Rattle.std.proofs.Common.{◌≡◌, ℕ, zero, suc, min, List, [], length, get_or, replicate, None, vec_items, sym, refl, ap, ◌∙◌, subst, arith}
 use Rattle.rules.specs.Entries.{Entry}
 use Rattle.config.specs.Setup.{setup}
-use Rattle.memory.specs.Memory.{entries_in, size_in, parents_in, room_in, line_in, lines_in}
-use Rattle.rules.specs.Log.{Log, Leads, begins}
-use Rattle.rules.specs.State.{power_up, line_room}
+use Rattle.memory.specs.Memory.{entries_in, line_in}
+use Rattle.rules.specs.Log.{begins}
+use Rattle.rules.specs.State.{power_up}
 use Rattle.adapter.specs.Fields.{state_from, Reached}
 use Rattle.adapter.specs.Parents.{parents_by}
 use Rattle.adapter.specs.declared.step.Step.TheVariants.{Out}
-use Rattle.adapter.specs.declared.times.Times.{Times}
 use Rattle.adapter.proofs.Views.{parents_none, state-≡}
 use Rattle.adapter.proofs.state.Adapter.new.Goals as goal
 use Rattle.adapter.proofs.state.Adapter.new.Goals.{After-new}
@@ -35,25 +34,14 @@ unfolding line_in
 invariant_of-result c =
     let config = c.args.config in
     let m = c.new-memory.result in
-    let e = c.new-memory.ensures in (
-      refl,
-      (
-        e.parents ∙ count c ∙ omega (arith, config.rates.ok.0),
-        (
-          omega (arith, e.size, e.entries, c.backlog.ensures),
-          (
-            (let size = c.backlog.ensures in let all = e.entries in let many = count c in e.room ∙ cc),
-            (
-              (λ p silent. ap (λ l. length (get_or l p [])) e.lines ∙ none_waits _ p),
-              (
-                subst (Reached (setup config) (entries_in m)) (sym (powered c)) ∣ ([], begins) ∣₁,
-                tt,
-              ),
-            ),
-          ),
-        ),
-      ),
-    )
+    let e = c.new-memory.ensures in record {
+      places = refl;
+      parents = e.parents ∙ count c ∙ omega (arith, config.rates.ok.0);
+      size = omega (arith, e.size, e.entries, c.backlog.ensures);
+      room = (let size = c.backlog.ensures in let all = e.entries in let many = count c in e.room ∙ cc);
+      quiet = (λ p silent. ap (λ l. length (get_or l p [])) e.lines ∙ none_waits _ p);
+      reached = subst (Reached (setup config) (entries_in m)) (sym (powered c)) ∣ ([], begins) ∣₁;
+    }
 
 pub returns : goal.returns
 returns c =

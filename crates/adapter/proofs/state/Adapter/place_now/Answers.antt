@@ -23,26 +23,26 @@ use Rattle.adapter.proofs.state.Adapter.place_now.Goals.{After-after-self}
 pub overflow_add-end : goal.overflow_add-end
 overflow_add-end g c =
     let a = c.args.self.now in
-    omega (arith, start_low a c.args.frame c.requires.0.rest c.requires.0.due.called.oldest, c.ticks.ensures, c.from.ensures, a.config.settings.0)
+    omega (arith, ap (λ f. f.start) c.frame.view_is, start_low a c.args.frame c.requires.placeable_now.rest c.requires.placeable_now.due.called.oldest, c.ticks.ensures, c.from.ensures, a.config.settings.0)
 
 pub place-course-requires : goal.place-course-requires
 place-course-requires g c =
     let a = c.args.self.now in
     let f = c.args.frame in
-    let due = c.requires.0.due in
+    let due = c.requires.placeable_now.due in
     let first = due.called.oldest in
     let m₁ = c.begin-doubt.new.memory in
     let e = c.begin-doubt.ensures in
-    let roomy : a.config.backlog + length (vec_items a.config.rates) ≤ entries_in a.memory = due.called.roomy in (
-      e.rest.shares.parents ∙ a.parents,
-      e.rest.shares.size ∙ a.size ∙ omega arith,
-      lines_in_order (lines_in m₁) (rising_begun a f c.requires.0.rest due m₁ m₁ e.lines),
-      few a m₁ e.rest.shares,
-      (begun_whole a (hearings_in a) f m₁ due.called.anchored e.lines, subst AllWhole (sym e.rest.backlog) (backlog_whole a)),
-      (slots_some a f c.requires.0.rest first, slots_low a f c.requires.0.rest first, start_low a f c.requires.0.rest first),
-      omega (arith, e.doubt, doubt_low a),
-      (λ adding. c.requires.1 (sym c.adds-adding.ensures ∙ adding)),
-    )
+    let roomy : a.config.backlog + length (vec_items a.config.rates) ≤ entries_in a.memory = due.called.roomy in record {
+      memory_value = e.rest.shares.parents ∙ a.parents;
+      memory_value_2 = e.rest.shares.size ∙ a.size ∙ omega arith;
+      lines_in_order = lines_in_order (lines_in m₁) (rising_begun a f c.requires.placeable_now.rest due m₁ m₁ e.lines);
+      memory_len_bound = few a m₁ e.rest.shares;
+      all_whole = (begun_whole a (hearings_in a) f m₁ due.called.anchored e.lines, subst AllWhole (sym e.rest.backlog) (backlog_whole a));
+      slots_nonzero = (slots_some a f c.requires.placeable_now.rest first, slots_low a f c.requires.placeable_now.rest first, start_low a f c.requires.placeable_now.rest first);
+      doubt_le_backlog = omega (arith, e.doubt, doubt_low a);
+      slots_bound = λ adding. c.requires.slots_bound (sym c.adds-adding.ensures ∙ adding);
+    }
 
 module _ (g : given.Over) (c : After-after-self g) where
   shares : SameShares c.args.self.now.memory c.place-course.new.memory
@@ -51,24 +51,24 @@ module _ (g : given.Over) (c : After-after-self g) where
   many : length c.rates-parents.result.now ≡ length (lines_in c.args.self.now.memory)
   many = ap length c.rates-parents.ensures ∙ sym (line_count c.args.self.now)
 
-  ends : c.args.frame.start + c.from.result ≡ end_of (setup_of c.args.self.now) c.args.frame
-  ends = ap (λ t. c.args.frame.start + t) (c.from.ensures ∙ c.ticks.ensures)
+  ends : c.frame.inside.start + c.from.result ≡ end_of (setup_of c.args.self.now) c.args.frame
+  ends = ap (λ s. s + c.from.result) (ap (λ f. f.start) c.frame.view_is) ∙ ap (λ t. c.args.frame.start + t) (c.from.ensures ∙ c.ticks.ensures)
 
-  restarts : Restarted (c.args.frame.start + c.from.result) (length (lines_in c.args.self.now.memory)) c.args.self.now.heard c.restart.new.heard
-  restarts = subst (λ n. Restarted (c.args.frame.start + c.from.result) n c.args.self.now.heard c.restart.new.heard) many c.restart.ensures
+  restarts : Restarted (c.frame.inside.start + c.from.result) (length (lines_in c.args.self.now.memory)) c.args.self.now.heard c.restart.new.heard
+  restarts = subst (λ n. Restarted (c.frame.inside.start + c.from.result) n c.args.self.now.heard c.restart.new.heard) many c.restart.ensures
 
   left : state_from c.place-course.new.memory c.restart.new.heard c.done.new.self c.after-self.result
-      ≡ placed (setup_of c.args.self.now) (view c.args.self.now) c.args.frame c.requires.0.rest (hearings_in c.args.self.now)
+      ≡ placed (setup_of c.args.self.now) (view c.args.self.now) c.args.frame c.requires.placeable_now.rest (hearings_in c.args.self.now)
       (step_by c.args.self.now.step (Placed c.place-course.result.doubt c.place-course.result.zero))
   left =
       let a = c.args.self.now in
       let p = c.place-course.ensures.placed in
       state-≡
-      (parents_left a c.args.frame c.requires.0.rest c.requires.0.due c.begin-doubt.new.memory c.place-course.new.memory c.begin-doubt.ensures.lines c.restart.new.heard _ ends restarts p.lines)
-      (c.done.ensures.waits ∙ ap (drop 1) c.requires.0.due.called.oldest)
+      (parents_left a c.args.frame c.requires.placeable_now.rest c.requires.placeable_now.due c.begin-doubt.new.memory c.place-course.new.memory c.begin-doubt.ensures.lines c.restart.new.heard _ ends restarts p.lines)
+      (c.done.ensures.waits ∙ ap (drop 1) c.requires.placeable_now.due.called.oldest)
       c.done.ensures.last
       (p.backlog ∙ ap (waiting a.config.backlog (turns_of_lines (setup_of a) c.args.frame (lines_in c.begin-doubt.new.memory))) c.begin-doubt.ensures.rest.backlog
-      ∙ ap (λ ts. waiting a.config.backlog ts (backlog_in a.memory)) (turns_are a c.args.frame c.requires.0.rest c.requires.0.due c.begin-doubt.new.memory c.begin-doubt.new.memory c.begin-doubt.ensures.lines))
+      ∙ ap (λ ts. waiting a.config.backlog ts (backlog_in a.memory)) (turns_are a c.args.frame c.requires.placeable_now.rest c.requires.placeable_now.due c.begin-doubt.new.memory c.begin-doubt.new.memory c.begin-doubt.ensures.lines))
       c.after-self.ensures
 
   -- the packets of the frame
@@ -81,7 +81,7 @@ module _ (g : given.Over) (c : After-after-self g) where
   goes = subst (λ adding. Goes g.C.Carrier.meaning adding packets c.args.carrier.now c.place-course.new.carrier) c.adds-adding.ensures c.place-course.ensures.carried
 
   rule : Frames (setup_of c.args.self.now) (entries_of c.args.self.now) (view c.args.self.now) (g.C.Carrier.meaning c.args.carrier.now)
-      (placed_answer (adds_in c.args.self.now.step) c.args.frame.number c.place-course.result.drops)
+      (placed_answer (adds_in c.args.self.now.step) c.frame.inside.number c.place-course.result.drops)
       (state_from c.place-course.new.memory c.restart.new.heard c.done.new.self c.after-self.result)
       (g.C.Carrier.meaning c.place-course.new.carrier)
   unfolding packets
@@ -92,39 +92,30 @@ module _ (g : given.Over) (c : After-after-self g) where
       let m₁ = c.begin-doubt.new.memory in
       let b₁ = backlog_in m₁ in
       let ts = turns_of_lines (setup_of a) f (lines_in m₁) in
-      placed_rule a f c.requires.0.rest c.requires.0.due m₁ c.place-course.new.memory c.begin-doubt.ensures.lines _ (g.C.Carrier.meaning c.args.carrier.now) (g.C.Carrier.meaning c.place-course.new.carrier)
+      rw (ap (λ f. f.number) c.frame.view_is)
+      (placed_rule a f c.requires.placeable_now.rest c.requires.placeable_now.due m₁ c.place-course.new.memory c.begin-doubt.ensures.lines _ (g.C.Carrier.meaning c.args.carrier.now) (g.C.Carrier.meaning c.place-course.new.carrier)
       c.place-course.result.drops c.place-course.result.doubt c.place-course.result.zero b₁ c.begin-doubt.ensures.rest.backlog
-      c.requires.1
+      c.requires.slots_bound
       p.counts
       (p.doubts ∙ ap (doubt a.config.backlog ts) c.begin-doubt.ensures.doubt)
       (p.zero ∙ ap (reaches_zero a.config.backlog ts) c.begin-doubt.ensures.doubt)
       (goes_means g.C.Carrier.meaning (adds_in a.step) _ _ _ goes)
-      left
+      left)
 
 pub invariant_of-self : goal.invariant_of-self
 invariant_of-self g c =
     let a = c.args.self.now in
     let m₂ = c.place-course.new.memory in
-    let shared = still_shared a.config _ _ (shares g c) (a.parents, a.size, a.room) in (
-      c.restart.ensures.many ∙ a.places,
-      (
-        shared.0,
-        (
-          shared.1,
-          (
-            shared.2,
-            (
-              quiet_restarted _ (length (lines_in a.memory)) a.heard c.restart.new.heard m₂ (restarts g c) (known_all a (hearings_in a) c.requires.0.due.called.anchored)
-                  (let same = count_left a c.args.frame c.requires.0.rest c.requires.0.due c.begin-doubt.new.memory m₂ c.begin-doubt.ensures.lines c.place-course.ensures.placed.lines in omega arith),
-              (
-                reached_by (framed _ _ _) (shares g c).entries (rule g c) a.reached,
-                tt,
-              ),
-            ),
-          ),
-        ),
-      ),
-    )
+    let shared = still_shared a.config _ _ (shares g c) (a.parents, a.size, a.room) in record {
+      places = c.restart.ensures.many ∙ a.places;
+      parents = shared.0;
+      size = shared.1;
+      room = shared.2;
+      quiet =
+          quiet_restarted _ (length (lines_in a.memory)) a.heard c.restart.new.heard m₂ (restarts g c) (known_all a (hearings_in a) c.requires.placeable_now.due.called.anchored)
+          (let same = count_left a c.args.frame c.requires.placeable_now.rest c.requires.placeable_now.due c.begin-doubt.new.memory m₂ c.begin-doubt.ensures.lines c.place-course.ensures.placed.lines in omega arith);
+      reached = reached_by (framed _ _ _) (shares g c).entries (rule g c) a.reached;
+    }
 
 pub returns : goal.returns
 returns g c =

@@ -1,4 +1,4 @@
-use Rattle.std.proofs.Common.{◌≡◌, cond, is_ok, refl, ap, ◌∙◌}
+use Rattle.std.proofs.Common.{cond, is_ok, refl, ap}
 use Rattle.rules.specs.Calls.{starts, anew, queued, refused_record}
 use Rattle.rules.specs.Slots.{Frame}
 use Rattle.rules.specs.Log.{recorded}
@@ -14,25 +14,14 @@ invariant_of-self-then-precede c =
     let f : Frame = record { number = c.args.number; start = c.args.start; slots = c.args.slots } in
     let rule = queue_rule (setup_of a) (entries_of a) (view a) f (is_ok c.queue.result) _ _
     (c.is_roomy.ensures.0 c.if-not-is_roomy.false) (c.in_range.ensures.0 c.if-not-in_range.false) (c.precede.ensures.0 c.if-precede.true)
-    c.queue.ensures.test c.queue.ensures.waits c.queue.ensures.last in (
-      a.places,
-      (
-        a.parents,
-        (
-          a.size,
-          (
-            a.room,
-            (
-              a.quiet,
-              (
-                reached_by (recorded f (cond (is_ok c.queue.result) queued (refused_record 11))) refl rule a.reached,
-                tt,
-              ),
-            ),
-          ),
-        ),
-      ),
-    )
+    c.queue.ensures.test c.queue.ensures.waits c.queue.ensures.last in record {
+      places = a.places;
+      parents = a.parents;
+      size = a.size;
+      room = a.room;
+      quiet = a.quiet;
+      reached = reached_by (recorded f (cond (is_ok c.queue.result) queued (refused_record 11))) refl rule a.reached;
+    }
 
 pub invariant_of-self-2 : goal.invariant_of-self-2
 invariant_of-self-2 c =
@@ -42,22 +31,11 @@ invariant_of-self-2 c =
     let shared = still_shared a.config _ _ rest.shares (a.parents, a.size, a.room) in
     let rule = starts (c.is_roomy.ensures.0 c.if-not-is_roomy.false) (c.in_range.ensures.0 c.if-not-in_range.false)
     (λ follows. never c.precede.result (c.precede.ensures.1 follows) c.if-precede.false)
-    refl (state-≡ (ap (parents_by a.heard) rest.lines) c.renew.ensures.waits c.renew.ensures.last c.empty_backlog.ensures.backlog c.after-self.ensures) in (
-      a.places,
-      (
-        shared.0,
-        (
-          shared.1,
-          (
-            shared.2,
-            (
-              quiet_same a.heard a.memory _ rest.lines a.quiet,
-              (
-                reached_by (recorded f anew) rest.shares.entries rule a.reached,
-                tt,
-              ),
-            ),
-          ),
-        ),
-      ),
-    )
+    refl (state-≡ (ap (parents_by a.heard) rest.lines) c.renew.ensures.waits c.renew.ensures.last c.empty_backlog.ensures.backlog c.after-self.ensures) in record {
+      places = a.places;
+      parents = shared.0;
+      size = shared.1;
+      room = shared.2;
+      quiet = quiet_same a.heard a.memory _ rest.lines a.quiet;
+      reached = reached_by (recorded f anew) rest.shares.entries rule a.reached;
+    }

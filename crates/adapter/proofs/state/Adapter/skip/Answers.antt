@@ -1,4 +1,4 @@
-use Rattle.std.proofs.Common.{◌≡◌, List, [], map, length, Some, sym, refl, ap, ◌∙◌, subst, arith}
+use Rattle.std.proofs.Common.{◌≡◌, [], map, length, Some, sym, refl, ap, ◌∙◌, arith}
 use Rattle.std.proofs.lemmas.List.{length-map}
 use Rattle.memory.specs.Memory.{lines_in, SameShares}
 use Rattle.rules.specs.Calls.{skips, skipped, skipping, let_go, records_from}
@@ -45,28 +45,19 @@ invariant_of-self c =
     let a = c.args.self.now in
     let hs = hearings_in a in
     let shared = still_shared a.config _ _ (shares c) (a.parents, a.size, a.room) in
-    let empty : Meaning = record { packets = []; free = 0; capacity = 0 } in (
-      c.restart.ensures.many ∙ a.places,
-      (
-        shared.0,
-        (
-          shared.1,
-          (
-            shared.2,
-            (
-              quiet_restarted c.args.since (length c.rates-parents.result.now) a.heard c.restart.new.heard c.empty_backlog.new.self c.restart.ensures
-                  (λ p k e. known_all a hs c.requires.called.anchored p (omega (arith, many c)) e)
-                  (let same = ap length (lines c) ∙ length-map (lines_in a.memory) (from_on c.args.since) in omega (arith, many c)),
-              (
-                reached_by (framed empty (skipped c.requires.frame.number) empty) (shares c).entries
-                    (skips c.requires.frame c.requires.rest hs c.requires.called c.requires.early refl (left c) refl) a.reached,
-                tt,
-              ),
-            ),
-          ),
-        ),
-      ),
-    )
+    let empty : Meaning = record { packets = []; free = 0; capacity = 0 } in record {
+      places = c.restart.ensures.many ∙ a.places;
+      parents = shared.0;
+      size = shared.1;
+      room = shared.2;
+      quiet =
+          quiet_restarted c.args.since (length c.rates-parents.result.now) a.heard c.restart.new.heard c.empty_backlog.new.self c.restart.ensures
+          (λ p k e. known_all a hs c.requires.called.anchored p (omega (arith, many c)) e)
+          (let same = ap length (lines c) ∙ length-map (lines_in a.memory) (from_on c.args.since) in omega (arith, many c));
+      reached =
+          reached_by (framed empty (skipped c.requires.frame.number) empty) (shares c).entries
+          (skips c.requires.frame c.requires.rest hs c.requires.called c.requires.early refl (left c) refl) a.reached;
+    }
 
 pub returns : goal.returns
 returns c =

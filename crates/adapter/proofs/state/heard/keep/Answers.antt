@@ -1,8 +1,8 @@
-use Rattle.std.proofs.Common.{◌≡◌, ltb, [], length, get_or, set, sym, refl, ap, ◌∙◌, inl, inr, arith}
+use Rattle.std.proofs.Common.{[], get_or, set, sym, refl, ap, ◌∙◌, inl, inr}
 use Rattle.std.proofs.lemmas.List.{set-get_or}
 use Rattle.std.proofs.lemmas.Bool.{ltb-true, ltb-false, lt-ltb}
 use Rattle.memory.proofs.Shares.{line_after}
-use Rattle.memory.specs.Memory.{lines_in, line_in, room_in, parents_in}
+use Rattle.memory.specs.Memory.{lines_in, line_in}
 use Rattle.psi.specs.Delivery.{meant}
 use Rattle.adapter.specs.Keeping.{passes, drops, fills, holds}
 use Rattle.adapter.proofs.Keeping.{unchanged, and_right, and_right_false}

@@ -1,4 +1,4 @@
-use Rattle.std.proofs.Common.{◌≡◌, max, length, Some, refl, ap, ◌∙◌, subst, arith}
+use Rattle.std.proofs.Common.{◌≡◌, max, Some, refl, ap, ◌∙◌, subst, arith}
 use Rattle.adapter.specs.Parents.{LatestSo}
 use Rattle.adapter.proofs.Letting.{known_at, latest_more}
 use Rattle.adapter.proofs.state.lines.latest.Goals as goal

@@ -1,4 +1,4 @@
-use Rattle.std.proofs.Common.{◌≡◌, [], length, get_or, set, sym, ap, ◌∙◌, subst, arith}
+use Rattle.std.proofs.Common.{◌≡◌, [], length, get_or, set, ap, ◌∙◌, subst, arith}
 use Rattle.memory.proofs.Shares.{length_lines}
 use Rattle.memory.specs.Memory.{lines_in, line_in}
 use Rattle.adapter.proofs.Keeping.{same_then, unchanged}

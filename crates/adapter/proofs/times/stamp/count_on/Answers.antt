@@ -1,5 +1,5 @@
-use Rattle.std.proofs.Common.{◌≡◌, ◌+◌, refl, ap, arith}
-use Rattle.rules.specs.Times.{Stamp, counted, too_many}
+use Rattle.std.proofs.Common.{◌+◌, refl, ap, arith}
+use Rattle.rules.specs.Times.{counted, too_many}
 use Rattle.adapter.proofs.times.stamp.count_on.Goals as goal
 
 pub returns-then-times-ge-MOST : goal.returns-then-times-ge-MOST

@@ -1,4 +1,4 @@
-use Rattle.std.proofs.Common.{◌≡◌, ◌*◌, ◌/◌, ◌≤◌, ap, div-le_self, arith}
+use Rattle.std.proofs.Common.{◌*◌, div-le_self, arith}
 use Rattle.rules.specs.Times.{after}
 use Rattle.adapter.proofs.times.stamp.delay.Goals as goal
 

@@ -1,4 +1,4 @@
-use Rattle.std.proofs.Common.{◌≡◌, ℕ, List, Some, None, Option, sym, subst}
+use Rattle.std.proofs.Common.{◌≡◌, ℕ, List, None, Option, sym, subst}
 use Rattle.rules.specs.Entries.{Entry}
 use Rattle.adapter.specs.Parents.{parent_of, StampedSo}
 use Rattle.adapter.specs.declared.times.Times.{Times}

@@ -8,7 +8,7 @@ returns-in-Some c =
     record {
       mounted = m;
       mounted' = c.put.new.self;
-      place = record { there = read_at c.args.self.now c.args.place c.index-mut.result.now (Some m) c.index-mut.ensures.value c.in-Some.is; carriers = refl };
+      place = record { there = read_at c.args.self.now c.args.place c.index_mut.result.now (Some m) c.index_mut.ensures.value c.in-Some.is; carriers = refl };
       answer = c.put.ensures.answer;
       stays = c.put.ensures.same;
       taken = c.put.ensures.taken;
@@ -18,8 +18,8 @@ returns-in-Some c =
 pub returns-in-None : goal.returns-in-None
 returns-in-None c =
     let at = c.args.self.now in
-    let is = c.index-mut.ensures.value in
+    let is = c.index_mut.ensures.value in
     record {
-      none = read_at at c.args.place c.index-mut.result.now None is c.in-None.is;
-      same = record { adapter = refl; carriers = left_at at c.args.place c.index-mut.result.now is };
+      none = read_at at c.args.place c.index_mut.result.now None is c.in-None.is;
+      same = record { adapter = refl; carriers = left_at at c.args.place c.index_mut.result.now is };
     }
