@@ -147,8 +147,12 @@ where
         Ok(run) => run,
         Err(fault) => return Err((0, fault)),
     };
+    let reader = match BufReader::new(heap, log) {
+        Ok(reader) => reader,
+        Err(error) => return Err((0, Fault::Unreadable(error))),
+    };
     let mut number = 0u64;
-    for line in BufReader::new(log).lines(heap) {
+    for line in reader.lines(heap) {
         number = number.saturating_add(1);
         let ended = match line {
             Ok(line) => run.line(text, line.as_bytes()),

@@ -30,6 +30,7 @@ use log::replay;
 use report::Report;
 use std::fs::File;
 use std::io::Read;
+use std::process::ExitCode;
 use std::{env, fs};
 use stop::Stop;
 
@@ -86,12 +87,14 @@ fn run(rt: &HostRuntime) -> Result<(), Stop> {
     }
 }
 
-fn main(rt: HostRuntime) -> Result<(), Stop> {
-    let ended = run(&rt);
-    match &ended {
-        Ok(()) | Err(Stop::Unequal) => {}
-        Err(Stop::Refused(line)) => rt.println(line.as_str())?,
-        Err(stop) => rt.eprintln(stop)?,
-    }
-    ended
+fn main(rt: HostRuntime) -> ExitCode {
+    let told = match run(&rt) {
+        Ok(()) => return ExitCode::SUCCESS,
+        Err(Stop::Unequal) => Ok(()),
+        Err(Stop::Refused(line)) => rt.println(line.as_str()),
+        Err(stop) => rt.eprintln(&stop),
+    };
+    // Where the words can't be written either, the status tells.
+    let _ = told;
+    ExitCode::FAILURE
 }

@@ -17,7 +17,7 @@ pub(crate) fn differing(
     let mut all = Vec::new(heap);
     all.extend_from_slice(first)?;
     all.extend_from_slice(second)?;
-    all.sort();
+    all.sort()?;
     let mut numbers: Vec<u32> = Vec::new(heap);
     let mut last: Option<Record> = None;
     for record in all.iter() {

@@ -125,6 +125,6 @@ pub(crate) fn broken_at<'a>(
     let mut spots = Vec::new(heap);
     note(&mut spots, Side::First, first)?;
     note(&mut spots, Side::Second, second)?;
-    spots.sort();
+    spots.sort()?;
     Ok(Streams { first, second }.first_break(spots.as_slice()))
 }

@@ -15,6 +15,7 @@ mod tests;
 use crate::fault::Fault;
 use crate::options::{Call, USAGE, read_call};
 use std::env;
+use std::process::ExitCode;
 
 // What the words of the command line ask for.
 fn run(rt: &HostRuntime) -> Result<(), Fault> {
@@ -34,10 +35,12 @@ fn run(rt: &HostRuntime) -> Result<(), Fault> {
     Ok(())
 }
 
-fn main(rt: HostRuntime) -> Result<(), Fault> {
-    let done = run(&rt);
-    if let Err(fault) = &done {
-        let _ = eprintln!(rt; "remux: {fault}");
+fn main(rt: HostRuntime) -> ExitCode {
+    match run(&rt) {
+        Ok(()) => ExitCode::SUCCESS,
+        Err(fault) => {
+            let _ = eprintln!(rt; "remux: {fault}");
+            ExitCode::FAILURE
+        }
     }
-    done
 }

@@ -33,6 +33,7 @@ use log::replay;
 use site::Site;
 use std::fs::File;
 use std::io::{BufWriter, Read, Write};
+use std::process::ExitCode;
 use std::{env, fs};
 use stop::Stop;
 
@@ -79,12 +80,13 @@ fn run(rt: &HostRuntime) -> Result<(), Stop> {
     ended
 }
 
-fn main(rt: HostRuntime) -> Result<(), Stop> {
-    let ended = run(&rt);
-    match &ended {
-        Ok(()) => {}
-        Err(Stop::Refused(line)) => rt.println(line.as_str())?,
-        Err(stop) => rt.eprintln(stop)?,
-    }
-    ended
+fn main(rt: HostRuntime) -> ExitCode {
+    let told = match run(&rt) {
+        Ok(()) => return ExitCode::SUCCESS,
+        Err(Stop::Refused(line)) => rt.println(line.as_str()),
+        Err(stop) => rt.eprintln(&stop),
+    };
+    // Where the words can't be written either, the status tells.
+    let _ = told;
+    ExitCode::FAILURE
 }

@@ -11,7 +11,6 @@ use sitelog::site::Place;
 use std::alloc::{AllocError, Global};
 
 // What runs from power-up on.
-#[cycle(powered)]
 #[derive(Drop)]
 struct Powered {
     site: sitelog::site::Site,
@@ -139,7 +138,6 @@ impl Powered {
 }
 
 // A site by its configuration text, which was accepted.
-#[cycle(powered)]
 #[derive(Drop)]
 pub(crate) struct Site {
     heap: Global,

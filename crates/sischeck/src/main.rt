@@ -7,6 +7,7 @@ use anyhow::anyhow;
 use config::answer::answer_line;
 use std::alloc::Global;
 use std::io::Read;
+use std::process::ExitCode;
 use std::{env, fs, io};
 
 // One byte more than a text may have, so that a longer one is seen to be too long and read no further.
@@ -36,10 +37,10 @@ fn run(rt: &HostRuntime) -> anyhow::Result<bool> {
     Ok(line.as_str().starts_with("ok"))
 }
 
-fn main(rt: HostRuntime) -> anyhow::Result<()> {
-    match run(&rt) {
-        Ok(true) => Ok(()),
-        Ok(false) => Err(anyhow!("refused")),
-        Err(e) => Err(e),
-    }
+fn main(rt: HostRuntime) -> anyhow::Result<ExitCode> {
+    Ok(if run(&rt)? {
+        ExitCode::SUCCESS
+    } else {
+        ExitCode::FAILURE
+    })
 }
