@@ -14,6 +14,7 @@
 // Where one of the first two is printed, nothing is promised of the frames. The status is 0 if every frame that both
 // added is equal.
 #![tactic(auto)]
+
 mod account;
 mod comparison;
 mod log;

@@ -1,6 +1,7 @@
 // Remultiplexes transport stream files: one file for each parent in, one multiplex out.
 // `remux --help` shows the call. The status is 0 where all went well and 1 for any fault, which is told on standard error.
 #![tactic(auto)]
+
 mod fault;
 mod job;
 mod options;

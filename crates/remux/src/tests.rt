@@ -129,5 +129,6 @@ fn files(rt: HostRuntime) -> Result<(), Fail> {
         };
         assert_eq!(rt; told.as_str(), expected);
     }
+    fs::remove_file(&rt, "test.ts")?;
     Ok(())
 }

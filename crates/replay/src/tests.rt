@@ -111,7 +111,7 @@ fn prints_up_to_a_fault(rt: HostRuntime) -> Result<(), Fail> {
     let log = b"tally\nwhat\ntally\n";
     let mut site = powered(heap, 9)?;
     assert!(rt; replay(heap, &mut site, &log[..], &mut out).is_err());
-    assert_eq!(rt; out.as_slice(), b"on\nblank\nblank\nblank\n");
+    assert_eq!(rt; out.as_slice(), b"on\nblank\nblank\nblank\n".as_slice());
     Ok(())
 }
 
