@@ -1,12 +1,12 @@
 // Map rows that clash: two that share what each has for itself, or one whose parent is not listed.
 ghost use Rattle.std.specs.Prelude.{◌≡◌, ◌<◌, length, IfSome};
-ghost use Rattle.config.specs.Verdict.{shares as «rows-share», any_shares, first_clash};
+ghost use Rattle.config.specs.Verdict.{shares as rows_share, any_shares, first_clash};
 
 use crate::row::Row;
 
 // Whether two rows share a pair of parent and pid, an out, or a service above 0.
 fn shares(one: &Row, other: &Row) -> bool
-    ensures { result ≡ «rows-share» one.now other.now }
+    ensures { result ≡ rows_share one.now other.now }
 {
     let pair = one.parent == other.parent && one.pid == other.pid;
     let service = one.service > 0 && one.service == other.service;

@@ -3,13 +3,13 @@ ghost use Rattle.std.specs.Prelude.{◌≡◌, IfOk};
 ghost use Rattle.config.specs.Layout.{within};
 ghost use Rattle.config.specs.Reading.{unless};
 ghost use Rattle.config.specs.Rows.{Between};
-ghost use Rattle.config.specs.Text.{number as «number_of», written};
+ghost use Rattle.config.specs.Text.{number as number_of, written};
 
 use crate::fault::TextRefusal;
 
 // The number that a field writes: 1 to 10 decimal digits and no leading zero.
 pub(crate) fn number(field: &[u8]) -> Option<u64>
-    ensures { result ≡ «number_of» field.now }
+    ensures { result ≡ number_of field.now }
 {
     let digits = field.len();
     if digits == 0 || digits > 10 {

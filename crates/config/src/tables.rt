@@ -1,6 +1,6 @@
 // The three tables of a configuration text, one after the other.
 ghost use Rattle.std.specs.Prelude.{◌≡◌, ◌+◌, [], length, slice_index_or};
-ghost use Rattle.config.specs.Layout.{settings_of, parents as «parents_of»};
+ghost use Rattle.config.specs.Layout.{settings_of, parents as parents_of};
 ghost use Rattle.config.specs.Reading.{text_lines};
 ghost use Rattle.config.specs.Walk.{At, ParentsRead, RowsRead, Reads, ReadsInMemory};
 
@@ -24,7 +24,7 @@ pub(crate) fn read_head(reader: &mut Reader<'_>) -> Result<Settings, TextFault>
 // The lines of the second table, and the empty line behind them: the parents' rates.
 pub(crate) fn read_parents(heap: Global, reader: &mut Reader<'_>) -> Result<Vec<u32>, ConfigFault>
     requires { At (text_lines reader.old) reader.old 4 }
-    ensures { ReadsInMemory (text_lines reader.old) reader.new (5 + «parents_of» (text_lines reader.old)) (λ rates. ParentsRead (text_lines reader.old) rates.items) result }
+    ensures { ReadsInMemory (text_lines reader.old) reader.new (5 + parents_of (text_lines reader.old)) (λ rates. ParentsRead (text_lines reader.old) rates.items) result }
 {
     let mut rates = Vec::new(heap);
     while let Some(rate) = reader.next_line().parent(rates.len())? {
@@ -35,7 +35,7 @@ pub(crate) fn read_parents(heap: Global, reader: &mut Reader<'_>) -> Result<Vec<
 
 // The lines of the third table, up to the end of the text: the map.
 pub(crate) fn read_rows(heap: Global, reader: &mut Reader<'_>) -> Result<Vec<Row>, ConfigFault>
-    requires { At (text_lines reader.old) reader.old (6 + «parents_of» (text_lines reader.old)) }
+    requires { At (text_lines reader.old) reader.old (6 + parents_of (text_lines reader.old)) }
     ensures { ReadsInMemory (text_lines reader.old) reader.new (length (text_lines reader.old)) (λ rows. RowsRead (text_lines reader.old) rows.items) result }
 {
     let mut rows = Vec::new(heap);

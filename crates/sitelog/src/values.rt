@@ -3,7 +3,7 @@ ghost use Rattle.std.specs.Prelude.{◌≡◌, ◌^◌, true};
 ghost use Rattle.std.specs.Option.{option_map};
 ghost use Rattle.std.specs.Result.{result_ok};
 ghost use Rattle.config.specs.Text.{all_digits, written};
-ghost use Rattle.sitelog.specs.Lines.{digits, below, number_below, time_in, kind_in as «kind_of»};
+ghost use Rattle.sitelog.specs.Lines.{digits, below, number_below, time_in, kind_in as kind_of};
 ghost use Rattle.sitelog.specs.Sites.{index_of};
 
 use crate::fault::{Field, LineFault};
@@ -89,7 +89,7 @@ pub(crate) fn time(word: &[u8]) -> Result<Option<u64>, LineFault>
 }
 
 pub(crate) fn kind(word: &[u8]) -> Result<Kind, LineFault>
-    ensures { result_ok result ≡ «kind_of» word.now }
+    ensures { result_ok result ≡ kind_of word.now }
 {
     if same(word, b"strip") {
         Ok(Kind::Strip)

@@ -1,5 +1,5 @@
 // Framing records.
-ghost use Rattle.rules.specs.Calls.{Records as «Records-by»};
+ghost use Rattle.rules.specs.Calls.{Records as RecordsBy};
 ghost use Rattle.adapter.specs.Answers.{record_answer};
 ghost use Rattle.adapter.specs.View.{view, setup_of, entries_of, KeptSetup};
 
@@ -13,7 +13,7 @@ use waiting::Full;
 impl Adapter {
     // The record of a frame to come: its number, when it starts and how many slots it has.
     pub fn record(&mut self, number: u32, start: u64, slots: u32) -> Result<Recorded, Refusal>
-        ensures rule { «Records-by» (setup_of self.old) (entries_of self.old) (view self.old) (record { number = number; start = start; slots = slots }) (record_answer result) (view self.new) }
+        ensures rule { RecordsBy (setup_of self.old) (entries_of self.old) (view self.old) (record { number = number; start = start; slots = slots }) (record_answer result) (view self.new) }
         ensures same { KeptSetup self.old self.new }
     {
         if !self.is_roomy() {

@@ -1,5 +1,5 @@
 ghost use Rattle.std.specs.Prelude.{◌≡◌, ◌<◌, IfOk};
-ghost use Rattle.config.specs.Layout.{within, kind_word, kind as «kind_of»};
+ghost use Rattle.config.specs.Layout.{within, kind_word, kind as kind_of};
 ghost use Rattle.config.specs.Reading.{next_field, at_field, Moved, Opened, unless};
 ghost use Rattle.config.specs.Rows.{Between};
 ghost use Rattle.config.specs.Text.{written};
@@ -12,7 +12,7 @@ use crate::row::Kind;
 
 // The kind that a field names.
 fn read_kind(field: &[u8]) -> Result<Kind, TextRefusal>
-    ensures { result ≡ unless (kind_word field.now) («kind_of» field.now) }
+    ensures { result ≡ unless (kind_word field.now) (kind_of field.now) }
 {
     if same(field, b"pass") {
         Ok(Kind::Pass)
@@ -63,7 +63,7 @@ impl<'a> Fields<'a> {
     // The next field as a kind.
     pub(crate) fn kind(&mut self) -> Result<Kind, TextFault>
         requires { self.old.field < 5 }
-        ensures value { result ≡ unless (at_field self.old kind_word) («kind_of» (next_field self.old)) }
+        ensures value { result ≡ unless (at_field self.old kind_word) (kind_of (next_field self.old)) }
         ensures moved { Moved self.old self.new }
     {
         match read_kind(self.next()) {

@@ -1,6 +1,6 @@
 ghost use Rattle.std.specs.Prelude.{◌≡◌, None};
 ghost use Rattle.std.specs.Option.{option_map};
-ghost use Rattle.config.specs.Layout.{names as «names-place», settings as «settings-place», gap as «gap-place», map_row, table_line, settings_of, row_of};
+ghost use Rattle.config.specs.Layout.{names as names_place, settings as settings_place, gap as gap_place, map_row, table_line, settings_of, row_of};
 ghost use Rattle.config.specs.Reading.{bytes_of, wrong, of_line, parent_or_gap, rate_or_none, unless};
 
 use crate::cuts::same;
@@ -30,7 +30,7 @@ impl<'a> Line<'a> {
 
     // The names of a table's columns.
     pub(crate) fn names(self, words: &[u8]) -> Result<(), TextFault>
-        ensures { result ≡ unless (wrong self.entry («names-place» words.now)) tt }
+        ensures { result ≡ unless (wrong self.entry (names_place words.now)) tt }
     {
         match self.bytes {
             None => Err(self.fault(TextRefusal::Names)),
@@ -56,7 +56,7 @@ impl<'a> Line<'a> {
 
     // The one line of values of the first table.
     pub(crate) fn settings(self) -> Result<Settings, TextFault>
-        ensures { result ≡ unless (wrong self.entry «settings-place») (of_line settings_of (bytes_of self.entry)) }
+        ensures { result ≡ unless (wrong self.entry settings_place) (of_line settings_of (bytes_of self.entry)) }
     {
         let Some(line) = self.bytes else {
             return Err(self.fault(TextRefusal::Range));
@@ -104,7 +104,7 @@ impl<'a> Line<'a> {
 
     // The empty line between two tables.
     pub(crate) fn gap(self) -> Result<(), TextFault>
-        ensures { result ≡ unless (wrong self.entry «gap-place») tt }
+        ensures { result ≡ unless (wrong self.entry gap_place) tt }
     {
         match self.bytes {
             None => Err(self.fault(TextRefusal::Names)),
