@@ -1,7 +1,7 @@
 #!/usr/bin/env python3
 """Shows PAT and PMT packets that the crate `psi` makes to a reader that knows nothing of it, and compares what it reads.
 
-    rt check psi_tests && python3 tests/peers/psi_tables.py
+    tools/build psi_tests && python3 tests/peers/psi_tables.py
 
 The packets are printed by target/bin/psi_tests; the reader is tshark (Debian package `tshark`), which decodes program association and
 program map sections and verifies their CRC. Not part of the gate: without tshark it says so and ends with status 2.
@@ -97,7 +97,7 @@ def main():
         print("tshark is not installed (Debian package `tshark`): nothing was compared")
         return 2
     if not os.path.exists(PROGRAM):
-        print("target/bin/psi_tests is not there: run `rt check psi_tests` first")
+        print("target/bin/psi_tests is not there: run `tools/build psi_tests` first")
         return 2
     packets = printed()
     tables, blank = packets[:-1], packets[-1]
