@@ -2,7 +2,7 @@
 ghost use Rattle.std.specs.Prelude.{◌≡◌, ◌+◌, [], ◌∷◌, ◌++◌, length, drop, is_ok, if◌then◌else◌, Some, None, Decides, nat_lt};
 ghost use Rattle.config.specs.Setup.{setup};
 ghost use Rattle.rules.specs.Calls.{Follows, InRange, records_from};
-ghost use Rattle.waiting.specs.Waiting.{oldest as first-waiting};
+ghost use Rattle.waiting.specs.Waiting.{oldest as first_waiting};
 ghost use Rattle.adapter.specs.Queue.{waiting_in};
 
 use crate::times::stamp::LATEST;
@@ -92,7 +92,7 @@ impl Records {
 
     // The record that has waited longest.
     pub(crate) fn oldest(&self) -> Option<Frame>
-        ensures { result ≡ first-waiting (waiting_in self.now) }
+        ensures { result ≡ first_waiting (waiting_in self.now) }
     {
         self.line.peek(&self.frames[..]).copied()
     }

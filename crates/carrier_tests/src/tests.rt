@@ -14,8 +14,8 @@ const SIZES: [(usize, usize, usize); 5] = [
 ];
 
 // Fills all places with packets that are no stuffing, and finds it full then.
-fn fills<C: Carrier>(rt: &impl Abort, carrier: &mut C, places: usize) {
-    assert_eq!(rt; carrier.capacity(), places, "a carrier of {places} places");
+fn fills<C: Carrier>(rt: &impl Abort, carrier: &mut C, size: usize, places: usize) {
+    assert_eq!(rt; carrier.capacity(), places, "a carrier of {size} bytes");
     follow(
         rt,
         carrier,
@@ -36,17 +36,17 @@ fn fills<C: Carrier>(rt: &impl Abort, carrier: &mut C, places: usize) {
         ],
     );
     carrier.empty();
-    assert_eq!(rt; carrier.capacity(), places);
-    assert_eq!(rt; carrier.free(), places);
+    assert_eq!(rt; carrier.capacity(), places, "emptied, of {size} bytes");
+    assert_eq!(rt; carrier.free(), places, "emptied, of {size} bytes");
 }
 
 #[test]
 fn places_of_each_size(rt: HostRuntime) -> Result<(), Fail> {
     for (size, in_strip, in_folded) in SIZES {
         let mut strip = Strip::new(vec![in rt.alloc(); 0; size]?);
-        fills(&rt, &mut strip, in_strip);
+        fills(&rt, &mut strip, size, in_strip);
         let mut folded = Folded::new(vec![in rt.alloc(); 0; size]?);
-        fills(&rt, &mut folded, in_folded);
+        fills(&rt, &mut folded, size, in_folded);
     }
     Ok(())
 }

@@ -110,8 +110,8 @@ pub data Place : Type 0 where
 
 -- line i of a table of 1 to `most` lines: what is wrong before its fields are looked at, and else with them
 abbrev pub table_line : ℕ → ℕ → ℕ → Bytes → Option TextFault → Option TextFault
-table_line n most i line in-fields =
-    cond (nat_le most i || (i == 0 && length line == 0)) (Some (fault Range n 0)) in-fields
+table_line n most i line in_fields =
+    cond (nat_le most i || (i == 0 && length line == 0)) (Some (fault Range n 0)) in_fields
 
 -- what is wrong with line n at its place, where m rows before it are `pmt`
 abbrev pub row_wrong : ℕ → ℕ → Bytes → Option TextFault

@@ -1,6 +1,6 @@
 // What is known of a parent from its packets that were taken, as an adapter knows it.
 ghost use Rattle.std.specs.Prelude.{◌≡◌};
-ghost use Rattle.feed.specs.Tracks.{anchored as anchored_at, counted as counted-on, taken, KeptByRule};
+ghost use Rattle.feed.specs.Tracks.{anchored as anchored_at, counted as counted_on, taken, KeptByRule};
 
 use crate::times::delay;
 
@@ -32,7 +32,7 @@ impl Known {
 
     // The next packet after an anchor.
     fn counted(self, rate: u32) -> Known
-        ensures { result ≡ counted-on rate self }
+        ensures { result ≡ counted_on rate self }
     {
         let count = self.count.saturating_add(1);
         Known {

@@ -1,7 +1,7 @@
 // What the map makes of a parent's packet.
 ghost use Rattle.std.specs.Prelude.{◌≡◌, IfSome, if◌then◌else◌, Some, None};
 ghost use Rattle.config.specs.Setup.{setup};
-ghost use Rattle.psi.specs.Delivery.{deliver_by, deliver as delivery-of, answer, Leaves};
+ghost use Rattle.psi.specs.Delivery.{deliver_by, deliver as delivery_of, answer, Leaves};
 ghost use Rattle.psi.specs.Packet.{good_packet};
 
 use crate::lookup::find_row;
@@ -27,7 +27,7 @@ pub enum Delivered {
 
 // What the map makes of a parent's packet.
 pub fn deliver(config: &Config, parent: u8, packet: &[u8]) -> Result<Delivered, BadPacket>
-    ensures value { answer result ≡ (if good_packet packet.now then Some (delivery-of (setup config.now) parent packet.now) else None) }
+    ensures value { answer result ≡ (if good_packet packet.now then Some (delivery_of (setup config.now) parent packet.now) else None) }
     ensures leaves { IfSome (answer result) (Leaves (setup config.now).rows) }
 {
     deliver_by(config.rows(), parent, packet)

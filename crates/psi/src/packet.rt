@@ -1,6 +1,6 @@
 // Transport packets: heads, stuffing, and a changed PID.
 ghost use Rattle.std.specs.Prelude.{◌≡◌, length, IfSome, if◌then◌else◌, Some, None, Decides};
-ghost use Rattle.psi.specs.Packet.{head_of, adaptation_in, pid_in, pid_high, good_packet, with_pid, Framed, stuffing as stuffing-bytes};
+ghost use Rattle.psi.specs.Packet.{head_of, adaptation_in, pid_in, pid_high, good_packet, with_pid, Framed, stuffing as stuffing_bytes};
 
 // How many bytes a packet has.
 pub const LENGTH: usize = 188;
@@ -70,7 +70,7 @@ pub(crate) fn pid_in(high: u8, low: u8) -> u16
 
 // Stuffing: what a slot takes that has nothing else to take.
 pub fn stuffing() -> [u8; 188]
-    ensures value { result ≡ stuffing-bytes }
+    ensures value { result ≡ stuffing_bytes }
     ensures framed { Framed result }
 {
     let mut packet = [0xff; LENGTH];
@@ -82,7 +82,7 @@ pub fn stuffing() -> [u8; 188]
 
 // Whether a packet is stuffing, byte for byte. One of PID 8,191 with other bytes is not.
 pub fn is_stuffing(packet: &[u8]) -> bool
-    ensures { Decides result (packet.now ≡ stuffing-bytes) }
+    ensures { Decides result (packet.now ≡ stuffing_bytes) }
 {
     packet == stuffing().as_slice()
 }

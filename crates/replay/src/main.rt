@@ -20,6 +20,7 @@
 //
 // A call that is refused prints `refused N`. The first line that is no call ends the run with status 1.
 #![tactic(auto)]
+
 mod log;
 mod observer;
 mod reply;

@@ -1,5 +1,5 @@
 // The rules of the adapter, and the laws that hold of every site that keeps them. There is no running adapter here:
-// each function below only carries what is proved of the definitions in specs/.
+// each function below only carries what is proved of the definitions in specs/. What waits in an adapter is in `entry`.
 #![tactic(auto)]
 
 ghost use Rattle.config.specs.Setup.{setup};
