@@ -1,5 +1,5 @@
 -- What the calls' answers stand for in the rules, and the number of each refusal.
-use Rattle.std.specs.Prelude.{ℕ, Ok, Err, Result}
+use Rattle.std.specs.Prelude.{ℕ, Ok, Err, Result, List, ◌++◌, codes, decimal}
 use Rattle.rules.specs.Calls.{HearAnswer, passed_over, dropped_it, held_it, refused_hear, LossAnswer, lost, refused_loss, RecordAnswer, anew, queued, refused_record, FrameAnswer, skipped, followed, added, refused_frame}
 use Rattle.adapter.specs.declared.answer.Heard.{Heard}
 use Rattle.adapter.specs.declared.answer.Heard.TheVariants.{PassedOver, Dropped, Held}
@@ -50,3 +50,24 @@ UnlessAdded (skipped number) P = P
 UnlessAdded (followed number drops) P = P
 UnlessAdded (added number drops) P = Unit {0}
 UnlessAdded (refused_frame number) P = P
+
+-- How each answer is told.
+abbrev pub heard_words : Heard → List ℕ
+heard_words PassedOver = codes "passed over"
+heard_words Dropped = codes "dropped"
+heard_words Held = codes "held"
+
+abbrev pub lost_words : List ℕ
+lost_words = codes "lost"
+
+abbrev pub recorded_words : Recorded → List ℕ
+recorded_words Anew = codes "anew"
+recorded_words Queued = codes "queued"
+
+abbrev pub framed_words : Framed → List ℕ
+framed_words (Skipped number) = codes "skipped " ++ decimal number
+framed_words (Followed number drops) = codes "followed " ++ (decimal number ++ (codes " dropped " ++ decimal drops))
+framed_words (Added number drops) = codes "added " ++ (decimal number ++ (codes " dropped " ++ decimal drops))
+
+abbrev pub refusal_words : Refusal → List ℕ
+refusal_words refusal = codes "refused " ++ decimal (number_of refusal)

@@ -1,6 +1,8 @@
 // What the calls answer.
-ghost use Rattle.std.specs.Prelude.{◌≡◌};
-ghost use Rattle.adapter.specs.Answers.{number_of};
+ghost use Rattle.std.specs.Prelude.{◌≡◌, Some};
+ghost use Rattle.adapter.specs.Answers.{number_of, heard_words, lost_words, recorded_words, framed_words, refusal_words};
+
+use std::fmt;
 
 // What became of a packet that was taken.
 #[derive(Clone, Copy, PartialEq, Eq, Debug)]
@@ -13,9 +15,29 @@ pub enum Heard {
     Held,
 }
 
+impl fmt::Display for Heard {
+    ghost output = { λ heard. Some (heard_words heard) };
+
+    fn fmt<W: fmt::Write>(&self, f: &mut fmt::Formatter<W>) -> fmt::Result {
+        f.write_str(match self {
+            Heard::PassedOver => "passed over",
+            Heard::Dropped => "dropped",
+            Heard::Held => "held",
+        })
+    }
+}
+
 // Anchor, times and line of the parent are gone.
 #[derive(Clone, Copy, PartialEq, Eq, Debug)]
 pub struct Lost;
+
+impl fmt::Display for Lost {
+    ghost output = { λ _. Some lost_words };
+
+    fn fmt<W: fmt::Write>(&self, f: &mut fmt::Formatter<W>) -> fmt::Result {
+        f.write_str("lost")
+    }
+}
 
 // What became of a record.
 #[derive(Clone, Copy, PartialEq, Eq, Debug)]
@@ -26,12 +48,35 @@ pub enum Recorded {
     Queued,
 }
 
+impl fmt::Display for Recorded {
+    ghost output = { λ recorded. Some (recorded_words recorded) };
+
+    fn fmt<W: fmt::Write>(&self, f: &mut fmt::Formatter<W>) -> fmt::Result {
+        f.write_str(match self {
+            Recorded::Anew => "anew",
+            Recorded::Queued => "queued",
+        })
+    }
+}
+
 // What became of a frame: its number, and how many packets were dropped in it.
 #[derive(Clone, Copy, PartialEq, Eq, Debug)]
 pub enum Framed {
     Skipped(u32),
     Followed(u32, u32),
     Added(u32, u32),
+}
+
+impl fmt::Display for Framed {
+    ghost output = { λ framed. Some (framed_words framed) };
+
+    fn fmt<W: fmt::Write>(&self, f: &mut fmt::Formatter<W>) -> fmt::Result {
+        match *self {
+            Framed::Skipped(number) => write!(f, "skipped {number}"),
+            Framed::Followed(number, drops) => write!(f, "followed {number} dropped {drops}"),
+            Framed::Added(number, drops) => write!(f, "added {number} dropped {drops}"),
+        }
+    }
 }
 
 // Why a call is refused.
@@ -66,5 +111,13 @@ impl Refusal {
             Refusal::Unheard => 13,
             Refusal::CarrierFull => 14,
         }
+    }
+}
+
+impl fmt::Display for Refusal {
+    ghost output = { λ refusal. Some (refusal_words refusal) };
+
+    fn fmt<W: fmt::Write>(&self, f: &mut fmt::Formatter<W>) -> fmt::Result {
+        write!(f, "refused {}", self.number())
     }
 }
