@@ -22,7 +22,7 @@ module _ {T : Type 0} where
     rises_tail x xs up = IsNonDecreasingBy-drop moment 1 (x ∷ xs) up
 
     -- where moments rise, all that stand behind one that is not before are not before
-    from_on_filters : (xs : List T) → IsNonDecreasingBy moment xs → from_on moment since xs ≡ not_before moment since xs
+    pub from_on_filters : (xs : List T) → IsNonDecreasingBy moment xs → from_on moment since xs ≡ not_before moment since xs
     from_on_filters [] up = refl
     from_on_filters (x ∷ xs) up =
         ⊎_elim
@@ -33,7 +33,7 @@ module _ {T : Type 0} where
         rw (le-ltb (moment x) since after, le-leb since (moment x) after) (ap (λ l. x ∷ l) (sym (kept_by_all _ xs later))))
         (cases_lt (moment x) since)
 
-    from_on_rises : (xs : List T) → IsNonDecreasingBy moment xs → IsNonDecreasingBy moment (from_on moment since xs)
+    pub from_on_rises : (xs : List T) → IsNonDecreasingBy moment xs → IsNonDecreasingBy moment (from_on moment since xs)
     from_on_rises [] up = up
     from_on_rises (x ∷ xs) up =
         cond_both (ltb (moment x) since) (from_on moment since xs) (x ∷ xs) (IsNonDecreasingBy moment) (λ before. from_on_rises xs (rises_tail x xs up)) (λ after. up)

@@ -52,11 +52,7 @@ impl<T: Copy> Line<T> {
     pub fn first(&self, slots: &[T]) -> Option<T>
         ensures { result ≡ oldest (waits self.now slots.now) }
     {
-        if self.count(slots) == 0 {
-            None
-        } else {
-            Some(slots[self.start(slots.len())])
-        }
+        self.peek(slots).copied()
     }
 
     // The element that has waited longest, where it stands.
@@ -135,10 +131,7 @@ impl<T: Copy + Moment> Line<T> {
         ensures filtered { IsNonDecreasingBy T.moment (waits self.old slots.now) → waits self.new slots.now ≡ not_before T.moment since (waits self.old slots.now) }
         ensures rises { IsNonDecreasingBy T.moment (waits self.old slots.now) → IsNonDecreasingBy T.moment (waits self.new slots.now) }
     {
-        while let Some(x) = self.peek(slots) {
-            if x.moment() >= since {
-                return;
-            }
+        while self.peek(slots).is_some_and(|x| x.moment() < since) {
             let _ = self.take(slots);
         }
     }
