@@ -1,8 +1,8 @@
 -- Regions of one list, and lines that wait side by side. Assumes nothing.
 use Rattle.std.proofs.Common.{◌≡◌, ℕ, zero, suc, ◌+◌, ◌-◌, ◌*◌, ◌<◌, ◌≤◌, ◌⊎◌, List, [], ◌∷◌, ◌++◌, length, get_or, take, drop, replicate, vec_items, vec_len, Option, Vec, sym, refl, ap, ◌∙◌, ap₂, ⊎_elim, suc-mul, zero-mul, arith}
 use borrow.Rule.Slice.PartMut.{put_mid}
-use Rattle.std.proofs.lemmas.List.{drop-drop, drop-take, length-append, length-drop, length-take, with_items_is}
-use Rattle.std.proofs.lemmas.Slice.{between-put_mid, take-put_mid_below, drop-put_mid}
+use Rattle.std.proofs.lemmas.List.{drop-drop, drop-take, drop_at, take_at, length-append, length-drop, length-take, length-take-le, with_items_is}
+use Rattle.std.proofs.lemmas.Slice.{take-put_mid_below, drop-put_mid}
 use Rattle.std.specs.Vec.{with_items}
 use Rattle.std.specs.Option.{option_to_list}
 use Rattle.std.specs.declared.alloc.Global.{Global}
@@ -26,28 +26,28 @@ module _ {T : Type 0} where
       (λ (behind : a + k ≤ b). ap (take n) (drop-put_mid a k xs ys b behind (omega arith) long))
       apart
 
-  -- a Vec of elements xs after a write of ys to those from a on, up to e
+  -- a Vec of elements xs after a write of ys to the k from a on
   abbrev pub written : Vec T Global → ℕ → ℕ → List T → List T → Vec T Global
-  written v a e xs ys = with_items v (put_mid a (e - a) xs ys)
+  written v a k xs ys = with_items v (put_mid a k xs ys)
 
-  module _ (v : Vec T Global) (a e : ℕ) (xs ys : List T) (all : xs ≡ vec_items v) (order : a ≤ e) (within : e ≤ vec_len v) (long : length ys ≡ e - a) where
+  module _ (v : Vec T Global) (a k : ℕ) (xs ys : List T) (all : xs ≡ vec_items v) (within : a + k ≤ vec_len v) (long : length ys ≡ k) where
     as_many : vec_len v ≡ length xs
     as_many = omega (arith, v.ok.0, ap length all)
 
-    is_written : vec_items (written v a e xs ys) ≡ put_mid a (e - a) xs ys
-    is_written = with_items_is v (put_mid a (e - a) xs ys) (simp (length-append, length-take, length-drop) (omega (arith, as_many)))
+    is_written : vec_items (written v a k xs ys) ≡ put_mid a k xs ys
+    is_written = with_items_is v (put_mid a k xs ys) (simp (length-append, length-take, length-drop) (omega (arith, as_many)))
 
-    pub written_here : take (e - a) (drop a (vec_items (written v a e xs ys))) ≡ ys
-    written_here = ap (λ l. take (e - a) (drop a l)) is_written ∙ between-put_mid a (e - a) xs ys e (omega (arith, as_many)) long
+    pub written_here : take k (drop a (vec_items (written v a k xs ys))) ≡ ys
+    written_here = ap (λ l. take k (drop a l)) is_written ∙ ap (take k) (drop_at (take a xs) _ a (length-take-le a xs (omega (arith, as_many)))) ∙ take_at ys _ k long
 
-    pub written_apart : (b n : ℕ) → Apart a (e - a) b n → take n (drop b (vec_items (written v a e xs ys))) ≡ take n (drop b (vec_items v))
+    pub written_apart : (b n : ℕ) → Apart a k b n → take n (drop b (vec_items (written v a k xs ys))) ≡ take n (drop b (vec_items v))
     written_apart b n apart =
         ap (λ l. take n (drop b l)) is_written
-        ∙ apart_stays a (e - a) b n xs ys (omega (arith, as_many)) long apart
+        ∙ apart_stays a k b n xs ys (omega (arith, as_many)) long apart
         ∙ ap (λ l. take n (drop b l)) all
 
-    pub written_behind : drop e (vec_items (written v a e xs ys)) ≡ drop e (vec_items v)
-    written_behind = ap (drop e) is_written ∙ drop-put_mid a (e - a) xs ys e (omega arith) (omega (arith, as_many)) long ∙ ap (drop e) all
+    pub written_behind : (e : ℕ) → a + k ≤ e → drop e (vec_items (written v a k xs ys)) ≡ drop e (vec_items v)
+    written_behind e past = ap (drop e) is_written ∙ drop-put_mid a k xs ys e past (omega (arith, as_many)) long ∙ ap (drop e) all
 
   -- what is left once the oldest, r, has gone
   pub rest_is : (ws vs : List T) (r : Option T) → r ≡ oldest ws → ws ≡ option_to_list r ++ vs → vs ≡ drop 1 ws

@@ -205,23 +205,23 @@ module _ {T : Type 0} (m : Memory T) (p from to : ℕ) (line : Line T) (here : R
 
   -- line p after a write to its slots, which are now ys
   module _ (xs ys : List T) (all : xs ≡ vec_items m.slots) (long : length ys ≡ to - from) where
-    order : from ≤ to
-    order = omega (arith, here.ends)
+    inside : from + (to - from) ≤ vec_len m.slots
+    inside = omega (arith, here.ends, here.within)
 
-    apart : (b n : ℕ) → Apart (start_in m p) (room_in m) b n → take n (drop b (vec_items (written m.slots from to xs ys))) ≡ take n (drop b (vec_items m.slots))
+    apart : (b n : ℕ) → Apart (start_in m p) (room_in m) b n → take n (drop b (vec_items (written m.slots from (to - from) xs ys))) ≡ take n (drop b (vec_items m.slots))
     apart b n off =
         let off' : Apart from (to - from) b n =
         ⊎_elim (λ before. inl (omega (arith, here.begins))) (λ behind. inr (omega (arith, here.begins, here.ends))) off in
-        written_apart m.slots from to xs ys all order here.within long b n off'
+        written_apart m.slots from (to - from) xs ys all inside long b n off'
 
-    pub written_lines : lines_in (with_line m line (written m.slots from to xs ys) refl p) ≡ set (lines_in m) p (waits line ys)
+    pub written_lines : lines_in (with_line m line (written m.slots from (to - from) xs ys) refl p) ≡ set (lines_in m) p (waits line ys)
     written_lines =
-        let v = written m.slots from to xs ys in
+        let v = written m.slots from (to - from) xs ys in
         with_line_lines m line v refl p apart here.line
-        ∙ ap (λ slots. set (lines_in m) p (waits line slots)) (sym (cut_out m p from to (vec_items v) here) ∙ written_here m.slots from to xs ys all order here.within long)
+        ∙ ap (λ slots. set (lines_in m) p (waits line slots)) (sym (cut_out m p from to (vec_items v) here) ∙ written_here m.slots from (to - from) xs ys all inside long)
 
-    pub written_only : OnlyLines m (with_line m line (written m.slots from to xs ys) refl p)
-    written_only = only_lines m line (written m.slots from to xs ys) refl p apart
+    pub written_only : OnlyLines m (with_line m line (written m.slots from (to - from) xs ys) refl p)
+    written_only = only_lines m line (written m.slots from (to - from) xs ys) refl p apart
 
 module _ {T : Type 0} (m : Memory T) (line : Line T) where
   -- the backlog after a change to nothing but where it stands
@@ -233,8 +233,8 @@ module _ {T : Type 0} (m : Memory T) (line : Line T) where
   moved_only_backlog = only_backlog m line m.slots refl refl
 
   -- the backlog after a write to its slots, which are now ys
-  module _ (size : ℕ) (xs ys : List T) (is : size ≡ size_in m) (all : xs ≡ vec_items m.slots) (long : length ys ≡ size - 0) where
-    within : size ≤ vec_len m.slots
+  module _ (size : ℕ) (xs ys : List T) (is : size ≡ size_in m) (all : xs ≡ vec_items m.slots) (long : length ys ≡ size) where
+    within : 0 + size ≤ vec_len m.slots
     unfolding entries_in
     within = omega (arith, size_fits m)
 
@@ -242,11 +242,9 @@ module _ {T : Type 0} (m : Memory T) (line : Line T) where
     unfolding backlog_in size_in
     written_backlog =
         let v = written m.slots 0 size xs ys in
-        let n : size_in m ≡ size - 0 = omega arith in
-        ap (waits line) (ap (λ k. take k (vec_items v)) n ∙ written_here m.slots 0 size xs ys all (omega arith) within long)
+        ap (waits line) (ap (λ k. take k (vec_items v)) (sym is) ∙ written_here m.slots 0 size xs ys all within long)
 
     pub written_only_backlog : OnlyBacklog m (with_backlog m line (written m.slots 0 size xs ys) refl)
     written_only_backlog =
         let v = written m.slots 0 size xs ys in
-        only_backlog m line v refl
-        (ap (λ k. drop k (vec_items v)) (sym is) ∙ written_behind m.slots 0 size xs ys all (omega arith) within long ∙ ap (λ k. drop k (vec_items m.slots)) is)
+        only_backlog m line v refl (written_behind m.slots 0 size xs ys all within long (size_in m) (omega arith))

@@ -7,6 +7,7 @@ ghost use Rattle.std.specs.List.Sorted.{IsNonDecreasingBy};
 ghost use Rattle.waiting.specs.Waiting.{oldest, from_on, not_before};
 ghost use Rattle.memory.specs.Memory.{entries_in, size_in, parents_in, room_in, lines_in, line_in, backlog_in, Region, OnlyLines, OnlyBacklog};
 
+use std::ops::Range;
 use waiting::{Full, Line, Moment};
 
 // No more parents than this have a line.
@@ -46,6 +47,7 @@ impl<T: Copy> Memory<T> {
     }
 
     // How many slots there are.
+    #[tactic(auto, unfolding(crate::specs::Memory::entries_in))]
     pub fn entries(&self) -> usize
         ensures { result ≡ entries_in self.now }
     {
@@ -53,7 +55,8 @@ impl<T: Copy> Memory<T> {
     }
 
     // How many may wait in the backlog.
-    fn size(&self) -> usize
+    #[tactic(auto, unfolding(crate::specs::Memory::size_in, crate::specs::Memory::entries_in))]
+    pub fn size(&self) -> usize
         ensures value { result ≡ size_in self.now }
         ensures within { result ≤ vec_len self.now.slots }
     {
@@ -61,36 +64,37 @@ impl<T: Copy> Memory<T> {
     }
 
     // How many parents have a line.
+    #[tactic(auto, using(crate::proofs::Shares::length_lines), unfolding(crate::specs::Memory::parents_in))]
     pub fn parents(&self) -> usize
         ensures value { result ≡ parents_in self.now }
         ensures lines { result ≡ length (lines_in self.now) }
         ensures bound { result ≤ 4 }
     {
-        let lines = &self.lines[..];
-        self.parents.min(lines.len())
+        self.parents.min(self.lines.len())
     }
 
     // How many may wait in each line.
+    #[tactic(auto, unfolding(crate::specs::Memory::room_in, crate::specs::Memory::entries_in))]
     pub fn room(&self) -> usize
         ensures { result ≡ room_in self.now }
     {
-        let parents = self.parents();
-        if parents == 0 {
-            return 0;
-        }
-        ((self.slots.len() - self.size()) / parents).min(MOST_ROOM)
+        let shared = self.slots.len() - self.size();
+        shared
+            .checked_div(self.parents())
+            .unwrap_or(0)
+            .min(MOST_ROOM)
     }
 
-    // Where the slots of line p begin and end, if there is such a line.
-    fn region(&self, p: usize) -> Option<(usize, usize)>
-        ensures { MatchOption result (parents_in self.now ≤ p) (λ ends. Region self.now p ends.0 ends.1) }
+    // Which slots are those of line p, if there is such a line.
+    fn region(&self, p: usize) -> Option<Range<usize>>
+        ensures { MatchOption result (parents_in self.now ≤ p) (λ slots. Region self.now p slots.start slots.end) }
     {
         if p >= self.parents() {
             return None;
         }
         let room = self.room();
         let from = self.size() + p * room;
-        Some((from, from + room))
+        Some(from..from + room)
     }
 
     // Takes its place at the end of line p, where there is such a line and room in it; else it is refused, and nothing changes.
@@ -99,18 +103,16 @@ impl<T: Copy> Memory<T> {
         ensures lines { lines_in self.new ≡ (if is_ok result then slice_set (lines_in self.old) p (line_in self.old p ++ x ∷ []) else lines_in self.old) }
         ensures rest { OnlyLines self.old self.new }
     {
-        let Some((from, to)) = self.region(p) else {
-            return Err(Full);
-        };
-        self.lines[p].join(&mut self.slots[from..to], x)
+        let region = self.region(p).ok_or(Full)?;
+        self.lines[p].join(&mut self.slots[region], x)
     }
 
     // The one that has waited longest in line p, where it stands.
     pub fn first(&self, p: usize) -> Option<&T>
         ensures { option_map (λ x. x.now) result ≡ oldest (line_in self.now p) }
     {
-        let (from, to) = self.region(p)?;
-        self.lines[p].peek(&self.slots[from..to])
+        let region = self.region(p)?;
+        self.lines[p].peek(&self.slots[region])
     }
 
     // How many wait in line p.
@@ -118,10 +120,11 @@ impl<T: Copy> Memory<T> {
         ensures value { result ≡ length (line_in self.now p) }
         ensures bound { result ≤ room_in self.now }
     {
-        let Some((from, to)) = self.region(p) else {
+        // A closure for `map_or` would have to state the bounds of the region, and the count, once more.
+        let Some(region) = self.region(p) else {
             return 0;
         };
-        self.lines[p].count(&self.slots[from..to])
+        self.lines[p].count(&self.slots[region])
     }
 
     // The one that has waited longest in line p goes.
@@ -130,8 +133,8 @@ impl<T: Copy> Memory<T> {
         ensures lines { lines_in self.new ≡ slice_set (lines_in self.old) p (drop 1 (line_in self.old p)) }
         ensures rest { OnlyLines self.old self.new }
     {
-        let (from, to) = self.region(p)?;
-        self.lines[p].take(&self.slots[from..to])
+        let region = self.region(p)?;
+        self.lines[p].take(&self.slots[region])
     }
 
     // Nothing waits in line p any more.
@@ -158,8 +161,7 @@ impl<T: Copy> Memory<T> {
     pub fn front(&self) -> Option<&T>
         ensures { option_map (λ x. x.now) result ≡ oldest (backlog_in self.now) }
     {
-        let size = self.size();
-        self.backlog.peek(&self.slots[0..size])
+        self.backlog.peek(&self.slots[..self.size()])
     }
 
     // The one that has waited longest in the backlog goes.
@@ -168,7 +170,7 @@ impl<T: Copy> Memory<T> {
         ensures rest { OnlyBacklog self.old self.new }
     {
         let size = self.size();
-        let _ = self.backlog.take(&self.slots[0..size]);
+        let _ = self.backlog.take(&self.slots[..size]);
     }
 
     // How many wait in the backlog.
@@ -176,8 +178,7 @@ impl<T: Copy> Memory<T> {
         ensures value { result ≡ length (backlog_in self.now) }
         ensures bound { result ≤ size_in self.now }
     {
-        let size = self.size();
-        self.backlog.count(&self.slots[0..size])
+        self.backlog.count(&self.slots[..self.size()])
     }
 
     // Nothing waits in the backlog any more.
@@ -198,8 +199,8 @@ impl<T: Copy + Moment> Memory<T> {
         ensures rises { IsNonDecreasingBy T.moment (line_in self.old p) → IsNonDecreasingBy T.moment (line_in self.new p) }
         ensures rest { OnlyLines self.old self.new }
     {
-        if let Some((from, to)) = self.region(p) {
-            self.lines[p].let_go_before(&self.slots[from..to], since);
+        if let Some(region) = self.region(p) {
+            self.lines[p].let_go_before(&self.slots[region], since);
         }
     }
 }

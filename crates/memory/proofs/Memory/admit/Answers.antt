@@ -18,6 +18,6 @@ returns g c =
     let long : length ys ≡ size - 0 = omega (arith, c.join.auto.slots, part) in
     record {
       test = c.join.ensures.test ∙ ap₂ ltb (ap length (sym before)) part;
-      backlog = written_backlog m line size xs ys is all long ∙ c.join.ensures.after ∙ ap (λ ws. cond (is_ok c.join.result) (ws ++ c.args.x ∷ []) ws) (sym before);
-      rest = written_only_backlog m line size xs ys is all long;
+      backlog = written_backlog m line (size - 0) xs ys n all long ∙ c.join.ensures.after ∙ ap (λ ws. cond (is_ok c.join.result) (ws ++ c.args.x ∷ []) ws) (sym before);
+      rest = written_only_backlog m line (size - 0) xs ys n all long;
     }

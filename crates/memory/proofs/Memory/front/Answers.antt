@@ -7,5 +7,5 @@ use Rattle.waiting.specs.Waiting.{oldest}
 pub returns : goal.returns
 returns g c =
     let m = c.args.self.now in
-    let n : c.size-size.result - 0 ≡ size_in m = omega arith in
-    c.peek.ensures ∙ ap oldest (sym (backlog_seen m (c.size-size.result - 0) c.deref.result.now n c.deref.ensures.value))
+    let n = c.size.ensures.value in
+    c.peek.ensures ∙ ap oldest (sym (backlog_seen m c.size.result c.deref.result.now n c.deref.ensures.value))

@@ -3,19 +3,20 @@ use Rattle.memory.proofs.Memory.hold.Goals as goal
 use Rattle.memory.proofs.Shares.{seen, length_seen, set_if, written_lines, written_only}
 use Rattle.memory.specs.Memory.{lines_in, line_in, parents_in, room_in}
 use Rattle.std.proofs.lemmas.Bool.{lt-ltb}
+use Rattle.std.proofs.lemmas.Option.{MatchOption-at_some}
 
 pub returns : goal.returns
 returns g c =
     let m = c.args.self.now in
     let p = c.args.p in
-    let from = c.in-Some.from in
-    let to = c.in-Some.to in
+    let from = c.in_ok-region.region.start in
+    let to = c.in_ok-region.region.end in
     let xs = c.deref_mut.result.now in
     let all = c.deref_mut.ensures.value in
     let ys = c.join.new.slots in
     let line = c.join.new.self in
     let ok = is_ok c.join.result in
-    let here = c.in-Some.ensures in
+    let here = MatchOption-at_some _ _ _ c.in_ok-region.ensures.ok_part c.region.ensures in
     let before = seen m p from to _ xs here all in
     let part = length_seen m p from to xs here all in
     let long : length ys ≡ to - from = omega (arith, c.join.auto.slots, part, here.ends) in

@@ -10,10 +10,10 @@ returns g c =
     let xs = c.deref.result.now in
     let all = c.deref.ensures.value in
     let line = c.take.new.self in
-    let n : c.size-size.result - 0 ≡ size_in m = omega arith in
-    let before = backlog_seen m (c.size-size.result - 0) xs n all in
+    let n = c.size-size.ensures.value in
+    let before = backlog_seen m c.size-size.result xs n all in
     let gone = rest_is _ _ _ c.take.ensures.value c.take.ensures.rest in
     record {
-      backlog = moved_backlog m line (c.size-size.result - 0) xs n all ∙ gone ∙ ap (drop 1) (sym before);
+      backlog = moved_backlog m line c.size-size.result xs n all ∙ gone ∙ ap (drop 1) (sym before);
       rest = moved_only_backlog m line;
     }

@@ -7,8 +7,8 @@ pub returns-in-Some : goal.returns-in-Some
 returns-in-Some g c =
     let m = c.args.self.now in
     let p = c.args.p in
-    let from = c.in-Some.from in
-    let to = c.in-Some.to in
+    let from = c.in-Some.region.start in
+    let to = c.in-Some.region.end in
     let xs = c.deref.result.now in
     let all = c.deref.ensures.value in
     let here = c.in-Some.ensures in

@@ -6,7 +6,7 @@ use Rattle.memory.specs.Memory.{size_in, backlog_in}
 pub returns : goal.returns
 returns g c =
     let m = c.args.self.now in
-    let n : c.size-size.result - 0 ≡ size_in m = omega arith in
-    let before = backlog_seen m (c.size-size.result - 0) c.deref.result.now n c.deref.ensures.value in
+    let n = c.size.ensures.value in
+    let before = backlog_seen m c.size.result c.deref.result.now n c.deref.ensures.value in
     let value : c.count.result ≡ length (backlog_in m) = c.count.ensures.value ∙ ap length (sym before) in
     record { value = value; bound = omega (arith, value, backlog_bound m) }
