@@ -13,11 +13,6 @@ module _ {T : Type 0} where
   kept_by_all p (x ∷ xs) h = rw h.0 (ap (λ l. x ∷ l) (kept_by_all p xs h.1))
 
   module _ (moment : T → ℕ) (since : ℕ) where
-    -- nothing goes where nothing waits, or where the oldest is not before
-    from_on_stays : (ws : List T) → IfSome (oldest ws) (λ x. since ≤ moment x) → from_on moment since ws ≡ ws
-    from_on_stays [] h = refl
-    from_on_stays (w ∷ ws) h = rw (le-ltb (moment w) since h)
-
     rises_tail : (x : T) (xs : List T) → IsNonDecreasingBy moment (x ∷ xs) → IsNonDecreasingBy moment xs
     rises_tail x xs up = IsNonDecreasingBy-drop moment 1 (x ∷ xs) up
 
@@ -37,9 +32,3 @@ module _ {T : Type 0} where
     from_on_rises [] up = up
     from_on_rises (x ∷ xs) up =
         cond_both (ltb (moment x) since) (from_on moment since xs) (x ∷ xs) (IsNonDecreasingBy moment) (λ before. from_on_rises xs (rises_tail x xs up)) (λ after. up)
-
-    -- what a call of `let_go_before` leaves: ws is left of all, once its oldest, r, stays
-    pub from_on_ends : (all ws : List T) (r : Option T) → from_on moment since ws ≡ from_on moment since all → r ≡ oldest ws → IfSome r (λ x. since ≤ moment x) → (ws ≡ from_on moment since all) × (IsNonDecreasingBy moment all → ws ≡ not_before moment since all) × (IsNonDecreasingBy moment all → IsNonDecreasingBy moment ws)
-    from_on_ends all ws r same is-oldest stays =
-        let left : ws ≡ from_on moment since all = sym (from_on_stays ws (subst (λ o. IfSome o (λ x. since ≤ moment x)) is-oldest stays)) ∙ same in
-        (left, λ up. left ∙ from_on_filters all up, λ up. subst (IsNonDecreasingBy moment) (sym left) (from_on_rises all up))

@@ -21,6 +21,7 @@ pub trait Moment {
 pub struct Full;
 
 // Where a line stands in its slots, which are elsewhere: the slot of the oldest, and how many wait.
+// It owns no slots, since all lines share the one memory that is made at power-up, and no call allocates.
 #[derive_where(Clone, Copy)]
 pub struct Line<T> {
     first: usize,
@@ -86,10 +87,10 @@ impl<T: Copy> Line<T> {
         ensures value { result ≡ oldest (waits self.old slots.now) }
         ensures rest { waits self.old slots.now ≡ option_to_list result ++ waits self.new slots.now }
     {
-        let x = self.peek(slots)?;
+        let x = self.first(slots)?;
         self.count = self.count(slots) - 1;
         self.first = self.start(slots.len()) + 1;
-        Some(*x)
+        Some(x)
     }
 
     // Nothing waits any more, over any slots.

@@ -1,5 +1,5 @@
 // Two lines over the two parts of one memory.
-ghost use Rattle.std.specs.Prelude.{◌≡◌, [], ◌∷◌, ◌++◌, length, is_ok, IfOk, if◌then◌else◌, vec_len, nat_lt};
+ghost use Rattle.std.specs.Prelude.{◌≡◌, min, [], ◌∷◌, ◌++◌, length, is_ok, IfOk, if◌then◌else◌, vec_len, nat_lt};
 ghost use Rattle.std.specs.Option.{option_to_list};
 ghost use Rattle.waiting.specs.Waiting.{oldest};
 ghost use Rattle.waiting_tests.specs.Hall.{front_seats, back_seats, in_front, at_back};
@@ -33,13 +33,20 @@ impl Hall {
         })
     }
 
+    // The seat from which on the back line sits.
+    fn cut(&self) -> usize
+        ensures { result ≡ min self.now.cut (vec_len self.now.memory) }
+    {
+        self.cut.min(self.memory.len())
+    }
+
     // Takes its place in the front line, where a seat is free; the back line stays as it is.
     pub fn join_front(&mut self, packet: Packet) -> Result<(), Full>
         ensures test { is_ok result ≡ nat_lt (length (in_front self.old)) (length (front_seats self.old)) }
         ensures front { in_front self.new ≡ (if is_ok result then in_front self.old ++ packet ∷ [] else in_front self.old) }
         ensures back { at_back self.new ≡ at_back self.old }
     {
-        let cut = self.cut.min(self.memory.len());
+        let cut = self.cut();
         self.front.join(&mut self.memory[0..cut], packet)
     }
 
@@ -49,8 +56,8 @@ impl Hall {
         ensures front { in_front self.new ≡ in_front self.old }
         ensures back { at_back self.new ≡ (if is_ok result then at_back self.old ++ packet ∷ [] else at_back self.old) }
     {
+        let cut = self.cut();
         let seats = self.memory.len();
-        let cut = self.cut.min(seats);
         self.back.join(&mut self.memory[cut..seats], packet)
     }
 
@@ -60,8 +67,8 @@ impl Hall {
         ensures front { in_front self.old ≡ option_to_list result ++ in_front self.new }
         ensures back { at_back self.new ≡ at_back self.old }
     {
-        let cut = self.cut.min(self.memory.len());
-        self.front.take(&self.memory[0..cut])
+        let cut = self.cut();
+        self.front.take(&self.memory[..cut])
     }
 
     // The first of the back line goes; the front line stays as it is.
@@ -70,8 +77,7 @@ impl Hall {
         ensures front { in_front self.new ≡ in_front self.old }
         ensures back { at_back self.old ≡ option_to_list result ++ at_back self.new }
     {
-        let seats = self.memory.len();
-        let cut = self.cut.min(seats);
-        self.back.take(&self.memory[cut..seats])
+        let cut = self.cut();
+        self.back.take(&self.memory[cut..])
     }
 }

@@ -12,8 +12,8 @@ returns c =
     let ms = c.deref_mut.result.now in
     let is-ms = c.deref_mut.ensures.value in
     let ys = c.join.new.slots in
-    let m = c.min-cut.result - 0 in
-    let is-min : m ≡ min cut (length ms) = omega (arith, ap length is-ms) in
+    let m = c.cut-cut.result - 0 in
+    let is-min : m ≡ min cut (length ms) = omega (arith, ap length is-ms, hall.memory.ok.0) in
     let long : length ys ≡ m = omega (arith, simp length-take at c.join.auto.slots) in
     let stored : vec_items (with_items hall.memory (ys ++ drop m ms)) ≡ ys ++ drop m ms =
     with_items_is hall.memory (ys ++ drop m ms) (simp (length-append, length-drop) (omega (arith, ap length is-ms))) in

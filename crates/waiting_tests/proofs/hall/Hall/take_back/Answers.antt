@@ -8,8 +8,9 @@ returns c =
     let hall = c.args.self.now in
     let ms = c.deref.result.now in
     let is-ms = c.deref.ensures.value in
-    let m = c.min-cut.result in
-    let n = c.len-seats.result in
-    let seats : take (n - m) (drop m ms) ≡ drop hall.cut (vec_items hall.memory) =
-    between_to_end ms m n (omega (arith, ap length is-ms)) ∙ back_part ms hall.cut m (omega (arith, ap length is-ms)) ∙ ap (drop hall.cut) is-ms in
+    let m = c.cut-cut.result in
+    let seats : take (length ms - m) (drop m ms) ≡ drop hall.cut (vec_items hall.memory) =
+    between_to_end ms m (length ms) (omega arith)
+    ∙ back_part ms hall.cut m (omega (arith, ap length is-ms, hall.memory.ok.0))
+    ∙ ap (drop hall.cut) is-ms in
     record { value = rw seats at c.take.ensures.value; front = refl; back = rw seats at c.take.ensures.rest }
