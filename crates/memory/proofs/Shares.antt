@@ -76,8 +76,9 @@ module _ {T : Type 0} (m : Memory T) where
   unfolding region
   cut_out p from to xs here = let room : to - from ≡ room_in m = omega (arith, here.ends) in let begins = here.begins in cc
 
-  pub seen : (p from to : ℕ) (d : Line T) (xs : List T) → Region m p from to → xs ≡ vec_items m.slots → line_in m p ≡ waits (get_or m.lines p d) (take (to - from) (drop from xs))
-  seen p from to d xs here all = line_is p d here.line ∙ ap (waits (get_or m.lines p d)) (ap (region p) (sym all) ∙ sym (cut_out p from to xs here))
+  -- what waits in line p, as the code reads it
+  pub seen : (p from to : ℕ) (d : Line T) (xs : List T) → Region m p from to → xs ≡ vec_items m.slots → waits (get_or m.lines p d) (take (to - from) (drop from xs)) ≡ line_in m p
+  seen p from to d xs here all = sym (line_is p d here.line ∙ ap (waits (get_or m.lines p d)) (ap (region p) (sym all) ∙ sym (cut_out p from to xs here)))
 
   pub length_seen : (p from to : ℕ) (xs : List T) → Region m p from to → xs ≡ vec_items m.slots → length (take (to - from) (drop from xs)) ≡ room_in m
   length_seen p from to xs here all = ap length (cut_out p from to xs here ∙ ap (region p) all) ∙ length_region p here.line
@@ -109,7 +110,7 @@ module _ {T : Type 0} (m : Memory T) where
   rise_tells moment since m' p ws vs before after filtered rises = rw (before, after) (filtered, rises)
 
   -- what waits in the backlog, and its slots, as the code cuts them out
-  pub backlog_seen : (n : ℕ) (xs : List T) → n ≡ size_in m → xs ≡ vec_items m.slots → backlog_in m ≡ waits m.backlog (take n xs)
+  pub backlog_seen : (n : ℕ) (xs : List T) → n ≡ size_in m → xs ≡ vec_items m.slots → waits m.backlog (take n xs) ≡ backlog_in m
   unfolding backlog_in
   backlog_seen n xs size all = cc
 

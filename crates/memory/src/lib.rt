@@ -108,6 +108,7 @@ impl<T: Copy> Memory<T> {
     }
 
     // The one that has waited longest in line p, where it stands.
+    #[tactic(auto, using(crate::proofs::Shares::seen, crate::proofs::Shares::no_line))]
     pub fn first(&self, p: usize) -> Option<&T>
         ensures { option_map (λ x. x.now) result ≡ oldest (line_in self.now p) }
     {
@@ -116,6 +117,7 @@ impl<T: Copy> Memory<T> {
     }
 
     // How many wait in line p.
+    #[tactic(auto, using(crate::proofs::Shares::seen, crate::proofs::Shares::no_line, crate::proofs::Shares::line_bound))]
     pub fn count(&self, p: usize) -> usize
         ensures value { result ≡ length (line_in self.now p) }
         ensures bound { result ≤ room_in self.now }
@@ -158,6 +160,7 @@ impl<T: Copy> Memory<T> {
     }
 
     // The one that has waited longest in the backlog, where it stands.
+    #[tactic(auto, using(crate::proofs::Shares::backlog_seen))]
     pub fn front(&self) -> Option<&T>
         ensures { option_map (λ x. x.now) result ≡ oldest (backlog_in self.now) }
     {
@@ -174,6 +177,7 @@ impl<T: Copy> Memory<T> {
     }
 
     // How many wait in the backlog.
+    #[tactic(auto, using(crate::proofs::Shares::backlog_seen, crate::proofs::Shares::backlog_bound))]
     pub fn waiting(&self) -> usize
         ensures value { result ≡ length (backlog_in self.now) }
         ensures bound { result ≤ size_in self.now }

@@ -13,7 +13,7 @@ returns g c =
     let ys = c.join.new.slots in
     let line = c.join.new.self in
     let n : size - 0 ≡ size_in m = omega arith in
-    let before = backlog_seen m (size - 0) xs n all in
+    let before = sym (backlog_seen m (size - 0) xs n all) in
     let part = length_backlog_seen m (size - 0) xs n all in
     let long : length ys ≡ size - 0 = omega (arith, c.join.auto.slots, part) in
     record {

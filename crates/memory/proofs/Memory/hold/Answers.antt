@@ -17,7 +17,7 @@ returns g c =
     let line = c.join.new.self in
     let ok = is_ok c.join.result in
     let here = MatchOption-at_some _ _ _ c.in_ok-region.ensures.ok_part c.region.ensures in
-    let before = seen m p from to _ xs here all in
+    let before = sym (seen m p from to _ xs here all) in
     let part = length_seen m p from to xs here all in
     let long : length ys ≡ to - from = omega (arith, c.join.auto.slots, part, here.ends) in
     record {

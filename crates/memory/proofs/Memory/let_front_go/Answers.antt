@@ -11,7 +11,7 @@ returns g c =
     let all = c.deref.ensures.value in
     let line = c.take.new.self in
     let n = c.size-size.ensures.value in
-    let before = backlog_seen m c.size-size.result xs n all in
+    let before = sym (backlog_seen m c.size-size.result xs n all) in
     let gone = rest_is _ _ _ c.take.ensures.value c.take.ensures.rest in
     record {
       backlog = moved_backlog m line c.size-size.result xs n all ∙ gone ∙ ap (drop 1) (sym before);

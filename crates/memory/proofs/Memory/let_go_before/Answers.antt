@@ -14,7 +14,7 @@ returns-in-Some g c =
     let here = c.in-Some.ensures in
     let line = c.let_go_before.new.self in
     let left = c.let_go_before.ensures in
-    let before = seen m p from to _ xs here all in
+    let before = sym (seen m p from to _ xs here all) in
     let after = line_after m _ p _ here.line (moved_lines m p from to line here xs _ all refl) in
     let told = rise_tells m _ _ _ p _ _ before after left.filtered left.rises in
     record {

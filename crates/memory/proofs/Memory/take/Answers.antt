@@ -22,7 +22,7 @@ returns g c =
     let to = c.in_ok-region.region.end in
     let xs = c.deref.result.now in
     let here = c.in_ok-region.ensures in
-    let before = seen m p from to _ xs here c.deref.ensures.value in
+    let before = sym (seen m p from to _ xs here c.deref.ensures.value) in
     let gone = rest_is _ _ _ c.take.ensures.value c.take.ensures.rest in
     record {
       value = c.take.ensures.value ∙ ap oldest (sym before);
