@@ -1,5 +1,5 @@
 -- Regions of one list, and lines that wait side by side. Assumes nothing.
-use Rattle.std.proofs.Common.{◌≡◌, ℕ, zero, suc, ◌+◌, ◌-◌, ◌*◌, ◌<◌, ◌≤◌, ◌⊎◌, List, [], ◌∷◌, ◌++◌, length, get_or, take, drop, replicate, vec_items, vec_len, Option, Vec, sym, refl, ap, ◌∙◌, ap₂, ⊎_elim, suc-mul, zero-mul, arith}
+use Rattle.std.proofs.Common.{◌≡◌, ℕ, zero, suc, ◌+◌, ◌-◌, ◌*◌, ◌<◌, ◌≤◌, ◌⊎◌, List, [], ◌∷◌, ◌++◌, length, get_or, take, drop, replicate, vec_items, vec_len, Some, None, Option, Vec, sym, refl, ap, ◌∙◌, ap₂, ⊎_elim, suc-mul, zero-mul, arith}
 use borrow.Rule.Slice.PartMut.{put_mid}
 use Rattle.std.proofs.lemmas.List.{drop-drop, drop-take, drop_at, take_at, length-append, length-drop, length-take, length-take-le, with_items_is}
 use Rattle.std.proofs.lemmas.Slice.{take-put_mid_below, drop-put_mid}
@@ -50,9 +50,10 @@ module _ {T : Type 0} where
     written_behind e past = ap (drop e) is_written ∙ drop-put_mid a k xs ys e past (omega (arith, as_many)) long ∙ ap (drop e) all
 
   -- what is left once the oldest, r, has gone
-  pub rest_is : (ws vs : List T) (r : Option T) → r ≡ oldest ws → ws ≡ option_to_list r ++ vs → vs ≡ drop 1 ws
-  rest_is [] vs r is left = sym (rw is at left)
-  rest_is (w ∷ ws) vs r is left = let all : w ∷ ws ≡ w ∷ vs = rw is at left in cc
+  pub rest_is : (r : Option T) (vs : List T) → r ≡ oldest (option_to_list r ++ vs) → vs ≡ drop 1 (option_to_list r ++ vs)
+  rest_is None [] is = refl
+  rest_is None (v ∷ vs) is = cc
+  rest_is (Some w) vs is = refl
 
   pub length_side : (room : ℕ) (lines : List (Line T)) (slots : List T) → length (side_by_side room lines slots) ≡ length lines
   unfolding side_by_side

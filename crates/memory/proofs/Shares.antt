@@ -193,19 +193,28 @@ module _ {T : Type 0} (m : Memory T) (line : Line T) (v : Vec T Global) (long : 
       let same : SameShares m with_backlog = shares_from m with_backlog long refl refl refl in
       record { lines = (let s = same.size in let r = same.room in let n = same.parents in cc); shares = same }
 
-module _ {T : Type 0} (m : Memory T) (p from to : ℕ) (line : Line T) (here : Region m p from to) where
+module _ {T : Type 0} (m : Memory T) (line : Line T) (p : ℕ) where
   -- line p after a change to nothing but where it stands
-  pub moved_lines : (xs ws : List T) → xs ≡ vec_items m.slots → waits line (take (to - from) (drop from xs)) ≡ ws → lines_in (with_line m line m.slots refl p) ≡ set (lines_in m) p ws
-  moved_lines xs ws all is =
-      with_line_lines m line m.slots refl p (λ b n apart. refl) here.line
-      ∙ ap (λ slots. set (lines_in m) p (waits line slots)) (ap (region m p) (sym all) ∙ sym (cut_out m p from to xs here))
-      ∙ ap (set (lines_in m) p) is
+  pub moved_lines : p < parents_in m → lines_in (with_line m line m.slots refl p) ≡ set (lines_in m) p (waits line (region m p (vec_items m.slots)))
+  moved_lines within = with_line_lines m line m.slots refl p (λ b n apart. refl) within
 
   pub moved_only : OnlyLines m (with_line m line m.slots refl p)
   moved_only = only_lines m line m.slots refl p (λ b n apart. refl)
 
+  -- line p where the code has its slots
+  pub moved_seen : (from to : ℕ) (xs : List T) → Region m p from to → xs ≡ vec_items m.slots → lines_in (with_line m line m.slots refl p) ≡ set (lines_in m) p (waits line (take (to - from) (drop from xs)))
+  moved_seen from to xs here all =
+      moved_lines here.line ∙ ap (λ slots. set (lines_in m) p (waits line slots)) (ap (region m p) (sym all) ∙ sym (cut_out m p from to xs here))
+
+  pub line_moved : (from to : ℕ) (xs : List T) → Region m p from to → xs ≡ vec_items m.slots → line_in (with_line m line m.slots refl p) p ≡ waits line (take (to - from) (drop from xs))
+  line_moved from to xs here all = line_after m (with_line m line m.slots refl p) p _ here.line (moved_seen from to xs here all)
+
+module _ {T : Type 0} (m : Memory T) (p from to : ℕ) (line : Line T) (here : Region m p from to) where
   -- line p after a write to its slots, which are now ys
-  module _ (xs ys : List T) (all : xs ≡ vec_items m.slots) (long : length ys ≡ to - from) where
+  module _ (xs ys : List T) (all : xs ≡ vec_items m.slots) (same : length ys ≡ length (take (to - from) (drop from xs))) where
+    long : length ys ≡ to - from
+    long = omega (arith, same, length_seen m p from to xs here all, here.ends)
+
     inside : from + (to - from) ≤ vec_len m.slots
     inside = omega (arith, here.ends, here.within)
 
@@ -226,15 +235,18 @@ module _ {T : Type 0} (m : Memory T) (p from to : ℕ) (line : Line T) (here : R
 
 module _ {T : Type 0} (m : Memory T) (line : Line T) where
   -- the backlog after a change to nothing but where it stands
-  pub moved_backlog : (n : ℕ) (xs : List T) → n ≡ size_in m → xs ≡ vec_items m.slots → backlog_in (with_backlog m line m.slots refl) ≡ waits line (take n xs)
+  pub moved_backlog : backlog_in (with_backlog m line m.slots refl) ≡ waits line (take (size_in m) (vec_items m.slots))
   unfolding backlog_in size_in
-  moved_backlog n xs size all = cc
+  moved_backlog = refl
 
   pub moved_only_backlog : OnlyBacklog m (with_backlog m line m.slots refl)
   moved_only_backlog = only_backlog m line m.slots refl refl
 
   -- the backlog after a write to its slots, which are now ys
-  module _ (size : ℕ) (xs ys : List T) (is : size ≡ size_in m) (all : xs ≡ vec_items m.slots) (long : length ys ≡ size) where
+  module _ (size : ℕ) (xs ys : List T) (is : size ≡ size_in m) (all : xs ≡ vec_items m.slots) (same : length ys ≡ length (take size xs)) where
+    full : length ys ≡ size
+    full = omega (arith, same, length_backlog_seen m size xs is all, is)
+
     within : 0 + size ≤ vec_len m.slots
     unfolding entries_in
     within = omega (arith, size_fits m)
@@ -243,9 +255,9 @@ module _ {T : Type 0} (m : Memory T) (line : Line T) where
     unfolding backlog_in size_in
     written_backlog =
         let v = written m.slots 0 size xs ys in
-        ap (waits line) (ap (λ k. take k (vec_items v)) (sym is) ∙ written_here m.slots 0 size xs ys all within long)
+        ap (waits line) (ap (λ k. take k (vec_items v)) (sym is) ∙ written_here m.slots 0 size xs ys all within full)
 
     pub written_only_backlog : OnlyBacklog m (with_backlog m line (written m.slots 0 size xs ys) refl)
     written_only_backlog =
         let v = written m.slots 0 size xs ys in
-        only_backlog m line v refl (written_behind m.slots 0 size xs ys all within long (size_in m) (omega arith))
+        only_backlog m line v refl (written_behind m.slots 0 size xs ys all within full (size_in m) (omega arith))
