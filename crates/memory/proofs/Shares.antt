@@ -8,7 +8,7 @@ use Rattle.std.specs.declared.alloc.Global.{Global}
 use Rattle.waiting.proofs.Rounds.{length_waits}
 use Rattle.waiting.specs.Waiting.{waits, not_before}
 use Rattle.waiting.specs.declared.Line.{Line}
-use Rattle.memory.proofs.Regions.{Apart, length_side, get_or_side, written, written_here, written_apart, written_behind}
+use Rattle.memory.proofs.Regions.{Apart, length_side, get_or_side, written, written_here, written_apart, written_behind, rest_is}
 use Rattle.memory.specs.Memory.{entries_in, size_in, parents_in, room_in, start_in, lines_in, line_in, backlog_in, Region, SameShares, OnlyLines, OnlyBacklog}
 use Rattle.memory.specs.declared.Memory.{Memory}
 
@@ -261,3 +261,9 @@ module _ {T : Type 0} (m : Memory T) (line : Line T) where
     written_only_backlog =
         let v = written m.slots 0 size xs ys in
         only_backlog m line v refl (written_behind m.slots 0 size xs ys all within full (size_in m) (omega arith))
+
+-- what a call on a line knows of what waits there, before and after
+pub ruleset of_a_line = (seen, length_seen, no_line, set_no_line, line_bound, moved_lines, moved_seen, line_moved, written_lines, set_if, rest_is)
+
+-- and a call on the backlog
+pub ruleset of_the_backlog = (backlog_seen, length_backlog_seen, backlog_bound, moved_backlog, written_backlog, rest_is)

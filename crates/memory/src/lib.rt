@@ -98,7 +98,7 @@ impl<T: Copy> Memory<T> {
     }
 
     // Takes its place at the end of line p, where there is such a line and room in it; else it is refused, and nothing changes.
-    #[tactic(auto, using(crate::proofs::Shares::seen, crate::proofs::Shares::length_seen, crate::proofs::Shares::written_lines, crate::proofs::Shares::set_if))]
+    #[tactic(auto, using(crate::proofs::Shares::of_a_line))]
     pub fn hold(&mut self, p: usize, x: T) -> Result<(), Full>
         ensures test { is_ok result ≡ nat_lt p (parents_in self.old) && nat_lt (length (line_in self.old p)) (room_in self.old) }
         ensures lines { lines_in self.new ≡ (if is_ok result then slice_set (lines_in self.old) p (line_in self.old p ++ x ∷ []) else lines_in self.old) }
@@ -109,7 +109,7 @@ impl<T: Copy> Memory<T> {
     }
 
     // The one that has waited longest in line p, where it stands.
-    #[tactic(auto, using(crate::proofs::Shares::seen, crate::proofs::Shares::no_line))]
+    #[tactic(auto, using(crate::proofs::Shares::of_a_line))]
     pub fn first(&self, p: usize) -> Option<&T>
         ensures { option_map (λ x. x.now) result ≡ oldest (line_in self.now p) }
     {
@@ -118,7 +118,7 @@ impl<T: Copy> Memory<T> {
     }
 
     // How many wait in line p.
-    #[tactic(auto, using(crate::proofs::Shares::seen, crate::proofs::Shares::no_line, crate::proofs::Shares::line_bound))]
+    #[tactic(auto, using(crate::proofs::Shares::of_a_line))]
     pub fn count(&self, p: usize) -> usize
         ensures value { result ≡ length (line_in self.now p) }
         ensures bound { result ≤ room_in self.now }
@@ -131,7 +131,7 @@ impl<T: Copy> Memory<T> {
     }
 
     // The one that has waited longest in line p goes.
-    #[tactic(auto, using(crate::proofs::Shares::seen, crate::proofs::Shares::no_line, crate::proofs::Shares::set_no_line, crate::proofs::Shares::moved_seen, crate::proofs::Shares::moved_only, crate::proofs::Regions::rest_is))]
+    #[tactic(auto, using(crate::proofs::Shares::of_a_line))]
     pub fn take(&mut self, p: usize) -> Option<T>
         ensures value { result ≡ oldest (line_in self.old p) }
         ensures lines { lines_in self.new ≡ slice_set (lines_in self.old) p (drop 1 (line_in self.old p)) }
@@ -142,7 +142,7 @@ impl<T: Copy> Memory<T> {
     }
 
     // Nothing waits in line p any more.
-    #[tactic(auto, using(crate::proofs::Shares::set_no_line, crate::proofs::Shares::moved_lines, crate::proofs::Shares::moved_only))]
+    #[tactic(auto, using(crate::proofs::Shares::of_a_line))]
     pub fn clear(&mut self, p: usize)
         ensures lines { lines_in self.new ≡ slice_set (lines_in self.old) p [] }
         ensures rest { OnlyLines self.old self.new }
@@ -153,7 +153,7 @@ impl<T: Copy> Memory<T> {
     }
 
     // Takes its place at the end of the backlog, or is refused where the backlog is full, and then nothing changes.
-    #[tactic(auto, using(crate::proofs::Shares::backlog_seen, crate::proofs::Shares::length_backlog_seen, crate::proofs::Shares::written_backlog))]
+    #[tactic(auto, using(crate::proofs::Shares::of_the_backlog))]
     pub fn admit(&mut self, x: T) -> Result<(), Full>
         ensures test { is_ok result ≡ nat_lt (length (backlog_in self.old)) (size_in self.old) }
         ensures backlog { backlog_in self.new ≡ (if is_ok result then backlog_in self.old ++ x ∷ [] else backlog_in self.old) }
@@ -164,7 +164,7 @@ impl<T: Copy> Memory<T> {
     }
 
     // The one that has waited longest in the backlog, where it stands.
-    #[tactic(auto, using(crate::proofs::Shares::backlog_seen))]
+    #[tactic(auto, using(crate::proofs::Shares::of_the_backlog))]
     pub fn front(&self) -> Option<&T>
         ensures { option_map (λ x. x.now) result ≡ oldest (backlog_in self.now) }
     {
@@ -172,7 +172,7 @@ impl<T: Copy> Memory<T> {
     }
 
     // The one that has waited longest in the backlog goes.
-    #[tactic(auto, using(crate::proofs::Shares::backlog_seen, crate::proofs::Shares::moved_backlog, crate::proofs::Shares::moved_only_backlog, crate::proofs::Regions::rest_is))]
+    #[tactic(auto, using(crate::proofs::Shares::of_the_backlog))]
     pub fn let_front_go(&mut self)
         ensures backlog { backlog_in self.new ≡ drop 1 (backlog_in self.old) }
         ensures rest { OnlyBacklog self.old self.new }
@@ -182,7 +182,7 @@ impl<T: Copy> Memory<T> {
     }
 
     // How many wait in the backlog.
-    #[tactic(auto, using(crate::proofs::Shares::backlog_seen, crate::proofs::Shares::backlog_bound))]
+    #[tactic(auto, using(crate::proofs::Shares::of_the_backlog))]
     pub fn waiting(&self) -> usize
         ensures value { result ≡ length (backlog_in self.now) }
         ensures bound { result ≤ size_in self.now }
@@ -191,7 +191,7 @@ impl<T: Copy> Memory<T> {
     }
 
     // Nothing waits in the backlog any more.
-    #[tactic(auto, using(crate::proofs::Shares::moved_backlog, crate::proofs::Shares::moved_only_backlog))]
+    #[tactic(auto, using(crate::proofs::Shares::of_the_backlog))]
     pub fn empty_backlog(&mut self)
         ensures backlog { backlog_in self.new ≡ [] }
         ensures rest { OnlyBacklog self.old self.new }
@@ -203,7 +203,7 @@ impl<T: Copy> Memory<T> {
 impl<T: Copy + Moment> Memory<T> {
     // Those at the front of line p whose moment is before `since` go.
     // Where moments rise along the line, those that stay are all that are not before, and still rise.
-    #[tactic(auto, using(crate::proofs::Shares::seen, crate::proofs::Shares::no_line, crate::proofs::Shares::set_no_line, crate::proofs::Shares::moved_seen, crate::proofs::Shares::line_moved))]
+    #[tactic(auto, using(crate::proofs::Shares::of_a_line))]
     pub fn let_go_before(&mut self, p: usize, since: u64)
         ensures lines { lines_in self.new ≡ slice_set (lines_in self.old) p (from_on T.moment since (line_in self.old p)) }
         ensures filtered { IsNonDecreasingBy T.moment (line_in self.old p) → line_in self.new p ≡ not_before T.moment since (line_in self.old p) }
