@@ -1,15 +1,15 @@
 -- How a memory is shared out, and what a change to one share leaves. Assumes nothing.
-use Rattle.std.proofs.Common.{◌≡◌, ℕ, suc, ◌+◌, ◌-◌, ◌*◌, ◌/◌, ◌<◌, ◌≤◌, Bool, true, false, cond, ◌≢◌, List, [], length, get_or, take, drop, set, vec_items, vec_len, Vec, sym, refl, ap, ◌∙◌, ap₂, inl, inr, ⊎_elim, mul-le-mul_right, suc-mul, mul-le-mul_left, arith}
+use Rattle.std.proofs.Common.{◌≡◌, ℕ, suc, ◌+◌, ◌-◌, ◌*◌, ◌/◌, ◌<◌, ◌≤◌, Bool, true, false, cond, ◌≢◌, List, [], length, get_or, take, drop, set, replicate, vec_items, vec_len, Vec, sym, refl, ap, ◌∙◌, ap₂, inl, inr, ⊎_elim, mul-le-mul_right, suc-mul, mul-le-mul_left, arith}
 use native.Mathlib.Nat.{mul-div-le}
-use Rattle.std.proofs.lemmas.List.{set_past, set-get_or, drop-drop, ext_get_or, get_or_past, get_or-set_other, get_or-set_same, get_or-take, length-drop, length-set, length-take}
+use Rattle.std.proofs.lemmas.List.{set_past, set-get_or, drop-drop, ext_get_or, get_or_past, get_or-set_other, get_or-set_same, get_or-take, length-drop, length-set, length-take, take-replicate}
 use Rattle.std.proofs.lemmas.Bool.{cases_eq, cases_lt, cases_order}
 use Rattle.std.specs.List.Sorted.{IsNonDecreasingBy}
 use Rattle.std.specs.declared.alloc.Global.{Global}
 use Rattle.waiting.proofs.Rounds.{length_waits}
 use Rattle.waiting.specs.Waiting.{waits, not_before}
 use Rattle.waiting.specs.declared.Line.{Line}
-use Rattle.memory.proofs.Regions.{Apart, length_side, get_or_side, written, written_here, written_apart, written_behind, rest_is}
-use Rattle.memory.specs.Memory.{entries_in, size_in, parents_in, room_in, start_in, lines_in, line_in, backlog_in, Region, SameShares, OnlyLines, OnlyBacklog}
+use Rattle.memory.proofs.Regions.{Apart, side_none, length_side, get_or_side, written, written_here, written_apart, written_behind, rest_is}
+use Rattle.memory.specs.Memory.{entries_in, size_in, parents_in, room_in, start_in, side_by_side, lines_in, line_in, backlog_in, Region, SameShares, OnlyLines, OnlyBacklog}
 use Rattle.memory.specs.declared.Memory.{Memory}
 
 module _ {T : Type 0} (m : Memory T) where
@@ -261,6 +261,10 @@ module _ {T : Type 0} (m : Memory T) (line : Line T) where
     written_only_backlog =
         let v = written m.slots 0 size xs ys in
         only_backlog m line v refl (written_behind m.slots 0 size xs ys all within full (size_in m) (omega arith))
+
+-- where nobody waits in any of n lines
+pub none_wait : {T : Type 0} (room n : ℕ) (line : Line T) (slots : List T) → n ≤ 4 → ((xs : List T) → waits line xs ≡ []) → side_by_side room (take n (replicate 4 line)) slots ≡ replicate n []
+none_wait room n line slots few none = ap (λ l. side_by_side room l slots) (take-replicate n 4 line few) ∙ side_none room n line slots none
 
 -- what a call on a line knows of what waits there, before and after
 pub ruleset of_a_line = (seen, length_seen, no_line, set_no_line, line_bound, moved_lines, moved_seen, line_moved, written_lines, set_if, rest_is)

@@ -29,6 +29,7 @@ pub struct Memory<T> {
 impl<T: Copy> Memory<T> {
     // A memory of the slots given, in which nothing waits: `size` of them, or all where there are fewer, are the backlog's,
     // and each of the parents, or of the first four, has a line.
+    #[tactic(auto, using(crate::proofs::Shares::none_wait), unfolding(crate::specs::Memory::entries_in, crate::specs::Memory::size_in, crate::specs::Memory::parents_in, crate::specs::Memory::room_in, crate::specs::Memory::lines_in, crate::specs::Memory::backlog_in))]
     pub fn new(slots: Vec<T>, size: usize, parents: usize) -> Memory<T>
         ensures entries { entries_in result ≡ vec_len slots }
         ensures size { size_in result ≡ min size (vec_len slots) }
@@ -86,6 +87,7 @@ impl<T: Copy> Memory<T> {
     }
 
     // Which slots are those of line p, if there is such a line.
+    #[tactic(auto, using(crate::proofs::Shares::line_fits), unfolding(crate::specs::Memory::start_in, crate::specs::Memory::entries_in))]
     fn region(&self, p: usize) -> Option<Range<usize>>
         ensures { MatchOption result (parents_in self.now ≤ p) (λ slots. Region self.now p slots.start slots.end) }
     {
