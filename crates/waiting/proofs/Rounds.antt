@@ -96,3 +96,19 @@ module _ {T : Type 0} where
       let inside : n < length (turned k xs) = simp length_turned (omega arith) in
       ap (take (n + 1)) (sym (round (set xs r x) (length-set xs r x)) ∙ written)
       ∙ take_more_set (turned k xs) n x inside ∙ ap (λ l. take n l ++ x ∷ []) (round xs refl)
+
+  -- the line after a write to slot k + i, where so many wait, or to the slot that it is past the last
+  pub joins_on : (line : Line T) (xs : List T) (k : ℕ) (x : T) → ((ys : List T) → length ys ≡ length xs → turned k ys ≡ turned line.first ys) → k + line.count < length xs → waits (one_more line) (set xs (k + line.count) x) ≡ waits line xs ++ x ∷ []
+  joins_on line xs k x round below = waits_joins line xs k _ x (omega arith) round (turned_set_on k line.count xs x below)
+
+  pub joins_round : (line : Line T) (xs : List T) (k : ℕ) (x : T) → ((ys : List T) → length ys ≡ length xs → turned k ys ≡ turned line.first ys) → k < length xs → line.count < length xs → length xs - k ≤ line.count → waits (one_more line) (set xs (line.count - (length xs - k)) x) ≡ waits line xs ++ x ∷ []
+  joins_round line xs k x round within room past = waits_joins line xs k _ x room round (turned_set_round k line.count xs x within past room)
+
+  -- the line once x, its oldest, has gone from slot k
+  pub taken : (line : Line T) (xs : List T) (k n : ℕ) (x : T) → k < length xs → turned k xs ≡ turned line.first xs → n ≡ length (waits line xs) → Some x ≡ oldest (waits line xs) → x ∷ waits (record { first = k + 1; count = n - 1; kind = line.kind }) xs ≡ waits line xs
+  taken line xs k n x within round many is =
+      let some : 0 < line.count = omega (arith, oldest_some _ _ is, length_waits line xs) in
+      let front = waits_cons line xs k x some within round in
+      let here : x ≡ get_or xs k x = let e = ap oldest front in cc in
+      let left : n ≡ min line.count (length xs) = many ∙ length_waits line xs in
+      sym (front ∙ ap₂ (λ y m. y ∷ waits (record { first = k + 1; count = m - 1; kind = line.kind }) xs) (sym here) (sym left))

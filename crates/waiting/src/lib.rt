@@ -31,6 +31,7 @@ pub struct Line<T> {
 
 impl<T: Copy> Line<T> {
     // A line in which nothing waits, over any slots.
+    #[tactic(auto, unfolding(crate::specs::Waiting::waits))]
     pub fn new() -> Line<T>
         ensures { (slots : List T) → waits result slots ≡ [] }
     {
@@ -42,6 +43,7 @@ impl<T: Copy> Line<T> {
     }
 
     // How many wait: at most as many as there are slots.
+    #[tactic(auto, using(crate::proofs::Rounds::length_waits))]
     pub fn count(&self, slots: &[T]) -> usize
         ensures value { result ≡ length (waits self.now slots.now) }
         ensures bound { result ≤ length slots.now }
@@ -57,6 +59,7 @@ impl<T: Copy> Line<T> {
     }
 
     // The element that has waited longest, where it stands.
+    #[tactic(auto, using(crate::proofs::Rounds::length_waits, crate::proofs::Rounds::oldest_is))]
     pub fn peek<'a>(&self, slots: &'a [T]) -> Option<&'a T>
         ensures { option_map (λ x. x.now) result ≡ oldest (waits self.now slots.now) }
     {
@@ -68,6 +71,7 @@ impl<T: Copy> Line<T> {
     }
 
     // Takes its place behind all that wait, or is refused where every slot is taken.
+    #[tactic(auto, using(crate::proofs::Rounds::length_waits))]
     pub fn join(&mut self, slots: &mut [T], x: T) -> Result<(), Full>
         ensures test { is_ok result ≡ nat_lt (length (waits self.old slots.old)) (length slots.old) }
         ensures after { waits self.new slots.new ≡ (if is_ok result then waits self.old slots.old ++ x ∷ [] else waits self.old slots.old) }
@@ -83,6 +87,7 @@ impl<T: Copy> Line<T> {
     }
 
     // The element that has waited longest goes.
+    #[tactic(auto, using(crate::proofs::Rounds::length_waits, crate::proofs::Rounds::oldest_some, crate::proofs::Rounds::taken))]
     pub fn take(&mut self, slots: &[T]) -> Option<T>
         ensures value { result ≡ oldest (waits self.old slots.now) }
         ensures rest { waits self.old slots.now ≡ option_to_list result ++ waits self.new slots.now }
@@ -94,6 +99,7 @@ impl<T: Copy> Line<T> {
     }
 
     // Nothing waits any more, over any slots.
+    #[tactic(auto, unfolding(crate::specs::Waiting::waits))]
     pub fn let_all_go(&mut self)
         ensures { (slots : List T) → waits self.new slots ≡ [] }
     {
@@ -101,6 +107,7 @@ impl<T: Copy> Line<T> {
     }
 
     // The slot at which the round of `len` slots begins.
+    #[tactic(auto, using(crate::proofs::Rounds::turned_past))]
     fn start(&self, len: usize) -> usize
         requires { 0 < len }
         ensures within { result < len }
@@ -110,6 +117,7 @@ impl<T: Copy> Line<T> {
     }
 
     // The slot behind the last that waits: what is written there waits next.
+    #[tactic(auto, using(crate::proofs::Rounds::joins_on, crate::proofs::Rounds::joins_round))]
     fn free(&self, slots: &[T]) -> usize
         requires { self.now.count < length slots.now }
         ensures within { result < length slots.now }
@@ -127,6 +135,7 @@ impl<T: Copy> Line<T> {
 
 impl<T: Copy + Moment> Line<T> {
     // Those at the front whose moment is before `since` go. Where moments rise along the line, those that stay are all that are not before, and still rise.
+    #[tactic(auto, using(crate::proofs::Moments::from_on_filters, crate::proofs::Moments::from_on_rises))]
     pub fn let_go_before(&mut self, slots: &[T], since: u64)
         ensures after { waits self.new slots.now ≡ from_on T.moment since (waits self.old slots.now) }
         ensures filtered { IsNonDecreasingBy T.moment (waits self.old slots.now) → waits self.new slots.now ≡ not_before T.moment since (waits self.old slots.now) }

@@ -1,7 +1,0 @@
-use Rattle.std.proofs.Common.{refl}
-use Rattle.waiting.proofs.Line.new.Goals as goal
-use Rattle.waiting.specs.Waiting.{waits}
-
-pub returns : goal.returns
-unfolding waits
-returns g c = λ slots. refl
