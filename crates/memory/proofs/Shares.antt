@@ -96,18 +96,10 @@ module _ {T : Type 0} (m : Memory T) where
   set_if p true ws = refl
   set_if p false ws = set-get_or (lines_in m) p []
 
-  -- line p, and any other, after a change to line p
+  -- line p after a change to it
   pub line_after : (m' : Memory T) (p : ℕ) (ws : List T) → p < parents_in m → lines_in m' ≡ set (lines_in m) p ws → line_in m' p ≡ ws
   unfolding line_in
   line_after m' p ws within is = ap (λ l. get_or l p []) is ∙ get_or-set_same (lines_in m) p ws [] (omega (arith, length_lines))
-
-  pub line_elsewhere : (m' : Memory T) (p k : ℕ) (ws : List T) → k ≢ p → lines_in m' ≡ set (lines_in m) p ws → line_in m' k ≡ line_in m k
-  unfolding line_in
-  line_elsewhere m' p k ws other is = ap (λ l. get_or l k []) is ∙ get_or-set_other (lines_in m) p k ws [] other
-
-  -- where line p held ws and now holds vs, what a rise along ws tells of vs it tells of the line
-  pub rise_tells : (moment : T → ℕ) (since : ℕ) (m' : Memory T) (p : ℕ) (ws vs : List T) → line_in m p ≡ ws → line_in m' p ≡ vs → (IsNonDecreasingBy moment ws → vs ≡ not_before moment since ws) → (IsNonDecreasingBy moment ws → IsNonDecreasingBy moment vs) → (IsNonDecreasingBy moment (line_in m p) → line_in m' p ≡ not_before moment since (line_in m p)) × (IsNonDecreasingBy moment (line_in m p) → IsNonDecreasingBy moment (line_in m' p))
-  rise_tells moment since m' p ws vs before after filtered rises = rw (before, after) (filtered, rises)
 
   -- what waits in the backlog, and its slots, as the code cuts them out
   pub backlog_seen : (n : ℕ) (xs : List T) → n ≡ size_in m → xs ≡ vec_items m.slots → waits m.backlog (take n xs) ≡ backlog_in m

@@ -50,7 +50,7 @@ module _ {T : Type 0} where
     pub ends : to ≡ from + room_in m
     pub within : to ≤ vec_len m.slots
 
-  -- The memory is shared out as it was.
+  -- The memory is shared out as it was: a fact of before and after, which each call states, and no invariant of one memory could.
   pub record SameShares (m m' : Memory T) : Type 0 where
     pub entries : entries_in m' ≡ entries_in m
     pub size : size_in m' ≡ size_in m

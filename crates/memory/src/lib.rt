@@ -17,6 +17,7 @@ const MOST_LINES: usize = 4;
 const MOST_ROOM: usize = 4096;
 
 // The first `size` slots are the backlog's. The slots behind them are shared out among the parents, as many to each as to every other.
+// The lines stand in an array with their number beside it, since a memory takes none of the heap but the slots it is given.
 #[derive(Drop)]
 pub struct Memory<T> {
     slots: Vec<T>,
@@ -153,6 +154,8 @@ impl<T: Copy> Memory<T> {
             self.lines[p].let_all_go();
         }
     }
+
+    // The calls on the backlog stand beside those on a line: each is one call at other slots, and only of a line may there be none.
 
     // Takes its place at the end of the backlog, or is refused where the backlog is full, and then nothing changes.
     #[tactic(auto, using(crate::proofs::Shares::of_the_backlog))]

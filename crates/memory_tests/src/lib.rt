@@ -3,6 +3,7 @@
 
 use waiting::Moment;
 
+// An element of this crate's own, so that these tests stand on no other crate of tests.
 #[derive(Clone, Copy, PartialEq, Eq, Debug)]
 pub struct Tick(pub u64);
 

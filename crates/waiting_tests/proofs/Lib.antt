@@ -1,1 +1,1 @@
-mod Seats
+pub mod Seats

@@ -1,7 +1,12 @@
 -- A memory ms in two parts, before the cut and from it on: m is where they meet. Assumes nothing.
-use Rattle.std.proofs.Common.{◌≡◌, ℕ, ◌-◌, ◌<◌, ◌≤◌, min, List, ◌++◌, length, take, drop, sym, ap, ◌∙◌, ⊎_elim, arith}
+use Rattle.std.proofs.Common.{◌≡◌, ℕ, ◌-◌, ◌<◌, ◌≤◌, min, List, ◌++◌, length, take, drop, vec_items, vec_len, sym, ap, ◌∙◌, ⊎_elim, arith}
 use Rattle.std.proofs.lemmas.List.{append-nil, length-append, length-drop, length-take, take_all, drop_all, take_at, drop_at, nil_from_length}
 use Rattle.std.proofs.lemmas.Bool.{cases_lt}
+use Rattle.std.proofs.lemmas.Slice.{between_to_end}
+use Rattle.waiting.specs.Waiting.{waits}
+use Rattle.waiting_tests.specs.Hall.{front_seats, back_seats, in_front, at_back}
+use Rattle.waiting_tests.specs.declared.elements.Packet.{Packet}
+use Rattle.waiting_tests.specs.declared.hall.Hall.{Hall}
 
 module _ {X : Type 0} (ms : List X) (cut m : ℕ) (is-min : m ≡ min cut (length ms)) where
   pub front_part : take m ms ≡ take cut ms
@@ -54,3 +59,25 @@ module _ {X : Type 0} (ms : List X) (cut m : ℕ) (is-min : m ≡ min cut (lengt
         (λ (few : cut < length ms). drop_at (take m ms) ys cut (simp length-take (omega arith)))
         (λ (all : length ms ≤ cut). drop_all cut (take m ms ++ ys) (simp (length-append, length-take) (omega arith)) ∙ sym (nil_from_length ys (omega arith)))
         (cases_lt cut (length ms))
+
+module _ (hall : Hall) (m : ℕ) (ms : List Packet) (is-min : m ≡ min hall.cut (vec_len hall.memory)) (is-ms : ms ≡ vec_items hall.memory) where
+  as_many : m ≡ min hall.cut (length ms)
+  as_many = omega (arith, ap length is-ms, hall.memory.ok.0)
+
+  -- who waits in front, as the code reads it
+  pub front_seen : waits hall.front (take m ms) ≡ in_front hall
+  front_seen = ap (waits hall.front) (front_part ms hall.cut m as_many ∙ ap (take hall.cut) is-ms)
+
+  pub front_seats_seen : length (take m ms) ≡ length (front_seats hall)
+  front_seats_seen = ap length (front_part ms hall.cut m as_many ∙ ap (take hall.cut) is-ms)
+
+  -- and at the back, up to the last seat
+  module _ (n : ℕ) (all : length ms ≤ n) where
+    back_here : take (n - m) (drop m ms) ≡ back_seats hall
+    back_here = between_to_end ms m n all ∙ back_part ms hall.cut m as_many ∙ ap (drop hall.cut) is-ms
+
+    pub back_seen : waits hall.back (take (n - m) (drop m ms)) ≡ at_back hall
+    back_seen = ap (waits hall.back) back_here
+
+    pub back_seats_seen : length (take (n - m) (drop m ms)) ≡ length (back_seats hall)
+    back_seats_seen = ap length back_here
