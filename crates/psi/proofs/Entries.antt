@@ -1,5 +1,5 @@
 -- Streams one after the other: how they are read, and what is written of them.
-use Rattle.std.proofs.Common.{◌≡◌, ℕ, zero, suc, ◌+◌, ◌/◌, ◌%◌, ◌<◌, ◌≤◌, true, false, cond, leb, List, [], ◌∷◌, ◌++◌, length, take, drop, Some, None, Option, sym, refl, ap, ◌∙◌, append_assoc, not-suc-le-zero, arith, length-drop}
+use Rattle.std.proofs.Common.{◌≡◌, ℕ, zero, suc, ◌+◌, ◌/◌, ◌%◌, ◌<◌, ◌≤◌, cond, leb, List, [], ◌∷◌, ◌++◌, length, take, drop, Some, None, Option, sym, refl, ap, ◌∙◌, append_assoc, not-suc-le-zero, arith, length-drop}
 use Rattle.std.specs.List.{flat_map}
 use Rattle.std.specs.Option.{option_map}
 use Rattle.std.proofs.lemmas.List.{length-take-le}
@@ -106,11 +106,11 @@ module _ (rows : List Row) (parent : ℕ) where
         same es = sym (ap (λ o. w ++ flat_map stream_bytes (moved o (stream_of rest) ++ moved_all rows parent es)) is)
 
   -- no streams fill the bytes
-  pub ended_wrong : (w after : Bytes) (o : Option (List Stream)) → option_map (adds w) o ≡ None → StreamsWritten rows parent w o after false
+  pub ended_wrong : (w after : Bytes) (o : Option (List Stream)) → option_map (adds w) o ≡ None → StreamsWritten rows parent w o after None
   ended_wrong w after None e = refl
   ended_wrong w after (Some es) e = let z : ◌≡◌ {A = ℕ} 0 1 = cc in absurd (omega arith)
 
   -- all are written
-  pub ended_right : (w after : Bytes) (o : Option (List Stream)) → option_map (adds w) o ≡ Some after → StreamsWritten rows parent w o after true
+  pub ended_right : (w after : Bytes) (o : Option (List Stream)) → option_map (adds w) o ≡ Some after → StreamsWritten rows parent w o after (Some tt)
   ended_right w after None e = let z : ◌≡◌ {A = ℕ} 0 1 = cc in absurd (omega arith)
   ended_right w after (Some es) e = (refl, (let s : after ≡ adds w es = cc in s))

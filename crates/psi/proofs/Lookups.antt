@@ -1,8 +1,9 @@
 -- A search through the map rows from the top.
-use Rattle.std.proofs.Common.{◌≡◌, ℕ, zero, suc, ◌+◌, ◌<◌, ◌≤◌, Bool, true, false, cond, List, [], ◌∷◌, length, get_or, drop, Some, None, Option, sym, refl, ap, ◌∙◌, subst, inl, ⊎_elim, le_of_suc-le-suc, not-suc-le-zero, add-zero, zero-add, arith}
+use Rattle.std.proofs.Common.{◌≡◌, ℕ, zero, suc, ◌+◌, ◌<◌, ◌≤◌, Bool, true, false, cond, List, [], ◌∷◌, length, get_or, Some, None, Option, sym, refl, ap, ◌∙◌, subst, inl, ⊎_elim, le_of_suc-le-suc, not-suc-le-zero, add-zero, zero-add, arith}
 use Rattle.std.specs.Option.{option_map}
-use Rattle.std.specs.List.{HoldsAt}
-use Rattle.std.proofs.lemmas.List.{get_or_default, at_drop_more}
+use Rattle.std.specs.List.{HoldsAt, position, position_from}
+use Rattle.std.proofs.lemmas.Iterator.Adapters.{position_from-zero}
+use Rattle.std.proofs.lemmas.List.{get_or_default}
 use Rattle.std.proofs.lemmas.Bool.{and_parts, eqb-true, cond-true, cond-false, cases_Bool, cases_lt, both_ways}
 use Rattle.config.specs.Rows.{NoneShares, Before}
 use Rattle.config.specs.declared.row.Row.{Row}
@@ -20,19 +21,30 @@ pub down_none : (found : Option (ℕ × Row)) → down 0 found ≡ found
 down_none None = refl
 down_none (Some f) = ap (λ m. Some (m, f.1)) (zero-add f.0)
 
--- the row at i fits, and none before it does
-pub hit : (rows : List Row) (parent pid i : ℕ) (d : Row) (whole : Option (ℕ × Row)) → i < length rows → down i (find_row (drop i rows) parent pid) ≡ whole → fits parent pid (get_or rows i d) ≡ true → Some (i, get_or rows i d) ≡ whole
-hit rows parent pid i d whole h inv e =
-    ap (λ m. Some (m, get_or rows i d)) (sym (add-zero i))
-    ∙ sym (at_drop_more (λ l. down i (find_row l parent pid)) rows i d h ∙ ap (down i) (cond-true _ _ _ e))
-    ∙ inv
+-- the place at which the search passes is the number of the row
+placed_from : (rows : List Row) (parent pid i : ℕ) → position_from (fits parent pid) i rows ≡ option_map (λ (f : ℕ × Row). f.0) (down i (find_row rows parent pid))
+placed_from [] parent pid i = refl
+placed_from (r ∷ rs) parent pid i = by_test (placed_from rs parent pid (i + 1)) (fits parent pid r)
+  where
+    by_test : position_from (fits parent pid) (i + 1) rs ≡ option_map (λ (f : ℕ × Row). f.0) (down (i + 1) (find_row rs parent pid)) → (b : Bool) → cond b (Some i) (position_from (fits parent pid) (i + 1) rs) ≡ option_map (λ (f : ℕ × Row). f.0) (down i (cond b (Some (0, r)) (option_map further (find_row rs parent pid))))
+    by_test rest true = ap Some (sym (add-zero i))
+    by_test rest false = rest ∙ ap (option_map (λ (f : ℕ × Row). f.0)) (sym (down_further i (find_row rs parent pid)))
 
--- the row at i does not fit
-pub miss : (rows : List Row) (parent pid i : ℕ) (d : Row) (whole : Option (ℕ × Row)) → i < length rows → down i (find_row (drop i rows) parent pid) ≡ whole → fits parent pid (get_or rows i d) ≡ false → down (i + 1) (find_row (drop (i + 1) rows) parent pid) ≡ whole
-miss rows parent pid i d whole h inv e =
-    sym (down_further i (find_row (drop (i + 1) rows) parent pid))
-    ∙ sym (at_drop_more (λ l. down i (find_row l parent pid)) rows i d h ∙ ap (down i) (cond-false _ _ _ e))
-    ∙ inv
+pub placed : (rows : List Row) (parent pid : ℕ) → position (fits parent pid) rows ≡ row_of rows parent pid
+unfolding row_of
+placed rows parent pid =
+    position_from-zero (fits parent pid) rows
+    ∙ placed_from rows parent pid 0
+    ∙ ap (option_map (λ (f : ℕ × Row). f.0)) (down_none (find_row rows parent pid))
+
+-- no row, or the one at that place
+pub unplaced : (rows : List Row) (parent pid : ℕ) → position (fits parent pid) rows ≡ None → find_row rows parent pid ≡ None
+unfolding row_of
+unplaced rows parent pid e = nothing (find_row rows parent pid) (sym (placed rows parent pid) ∙ e)
+  where
+    nothing : (o : Option (ℕ × Row)) → option_map (λ (f : ℕ × Row). f.0) o ≡ None → o ≡ None
+    nothing None h = refl
+    nothing (Some f) h = let z : ◌≡◌ {A = ℕ} 0 1 = cc in absurd (omega arith)
 
 -- the first row that fits stands at or before any that does
 pub record First (rows : List Row) (parent pid k : ℕ) : Type 0 where
@@ -110,3 +122,14 @@ found (r ∷ rs) parent pid f e = found_by (fits parent pid r) (find_row rs pare
         let is : further g ≡ f = cc in
         let rest = below g refl in
         subst (Found (r ∷ rs)) is (record { within = omega (arith, rest.within); there = rest.there })
+
+pub placed_at : (rows : List Row) (parent pid k : ℕ) → position (fits parent pid) rows ≡ Some k → (k < length rows) × ((d : Row) → find_row rows parent pid ≡ Some (k, get_or rows k d))
+unfolding row_of
+placed_at rows parent pid k e = at (find_row rows parent pid) refl (sym (placed rows parent pid) ∙ e)
+  where
+    at : (o : Option (ℕ × Row)) → find_row rows parent pid ≡ o → option_map (λ (f : ℕ × Row). f.0) o ≡ Some k → (k < length rows) × ((d : Row) → find_row rows parent pid ≡ Some (k, get_or rows k d))
+    at None is h = let z : ◌≡◌ {A = ℕ} 0 1 = cc in absurd (omega arith)
+    at (Some f) is h =
+        let there = found rows parent pid f is in
+        let same : f.0 ≡ k = cc h in
+        (omega (arith, there.within, same), λ d. is ∙ (λ i. Some (same i, (sym (there.there d) ∙ ap (λ n. get_or rows n d) same) i)))

@@ -1,6 +1,8 @@
 -- The entries of a PAT row by row, its packet, and what a reader finds in it.
 use Rattle.std.proofs.Common.{◌≡◌, ℕ, suc, ◌+◌, ◌-◌, ◌*◌, ◌/◌, ◌%◌, ◌<◌, ◌≤◌, cond, List, [], ◌∷◌, ◌++◌, length, get_or, take, drop, replicate, refl, ap, ◌∙◌, append_assoc, suc-le-suc, zero-le, zero-add, arith, length-append}
+use Rattle.std.specs.List.{count_by}
 use Rattle.std.proofs.lemmas.List.{at_drop_more, take_at}
+use Rattle.std.proofs.lemmas.List.Recursion.{is_sum_by}
 use Rattle.config.specs.declared.row.Row.{Row}
 use Rattle.config.specs.declared.row.Kind.{Kind}
 use Rattle.config.specs.declared.row.Kind.TheVariants.{Pass, Pmt}
@@ -12,6 +14,10 @@ use Rattle.psi.specs.Sections.{length_in, length_high, with_length, closed}
 use Rattle.psi.proofs.Crcs.{length_sealed}
 use Rattle.psi.proofs.Packets.{filled_long}
 use Rattle.psi.specs.Pat.{program_entry, programs, pat_section, pat_packet, pat_copy, pairs, pairs_of, services}
+
+-- the `pmt` rows, as a count of the rows that pass a test
+pub pmts_counted : (rows : List Row) → pmts rows ≡ count_by (λ row. is_pmt row.kind) rows
+pmts_counted rows = is_sum_by pmts (λ row. cond (is_pmt row.kind) 1 0) refl (λ _ _. refl) rows
 
 module _ (rows : List Row) (i : ℕ) (d : Row) (h : i < length rows) where
   pub more_pmt : (get_or rows i d).kind ≡ Pmt → pmts (drop i rows) ≡ 1 + pmts (drop (i + 1) rows)

@@ -1,16 +1,20 @@
 -- What a patchable packet is made of.
-use Rattle.std.proofs.Common.{◌≡◌, ℕ, suc, ◌+◌, ◌-◌, ◌/◌, ◌%◌, ◌<◌, ◌≤◌, Bool, true, false, cond, ◌&&◌, eqb, List, [], ◌∷◌, ◌++◌, length, take, drop, Some, None, Option, unwrap_or, refl, ap, ◌∙◌, ⊎_elim, append_assoc, arith, lit<, length-drop, MatchOption}
+use denote.Enum.Bare.{sameb}
+use Rattle.std.specs.Bool.{then_some}
+use Rattle.std.proofs.Common.{◌≡◌, ℕ, suc, ◌+◌, ◌-◌, ◌/◌, ◌%◌, ◌<◌, ◌≤◌, Bool, true, false, cond, ◌&&◌, eqb, List, [], ◌∷◌, ◌++◌, length, take, drop, Some, None, Option, unwrap_or, refl, ap, ◌∙◌, ⊎_elim, append_assoc, arith, lit<, length-drop, MatchOption, subst, sym, not, true≢false}
 use Rattle.std.specs.List.{flat_map}
 use Rattle.std.specs.Option.{option_map}
 use Rattle.std.proofs.lemmas.List.{length-take-le, get_or-take}
-use Rattle.std.proofs.lemmas.Bool.{and_parts, and_from, eqb-true, eq-eqb, leb-true, le-leb, cond-true, cond-false, both_ways, cases_Bool}
+use Rattle.std.proofs.lemmas.Bool.{and_parts, and_from, eqb-true, eq-eqb, leb-true, le-leb, cond-true, cond-false, both_ways, cases_Bool, false≢true}
 use Rattle.config.specs.declared.row.Row.{Row}
 use Rattle.psi.specs.Lookup.{out_of}
 use Rattle.psi.specs.Packet.{Bytes, byte, good_packet, start_of, scrambling_of, adaptation_in, adaptation_of, payload_only, pid_in, pid_byte, pid_high, filled}
 use Rattle.psi.specs.Sections.{section_length, length_in, length_byte, with_length, closed}
 use Rattle.psi.specs.Crc.{sealed}
 use Rattle.psi.specs.Pmt.{Stream, Pmt, stream_bytes, section_body, section_bytes, pmt_bytes, section_with, pmt_with, streams_of, stream_part, moved_all, patch_section, patch_pmt, patched, StreamsWritten, no_pcr, info_length, fixed_part, before_crc, right_crc, section_of, opens, pmt_of}
-use Rattle.psi.specs.declared.packet.Adaptation.TheVariants.{Field, Both}
+use Rattle.psi.specs.declared.packet.Adaptation.{Adaptation}
+use Rattle.psi.specs.declared.packet.Adaptation.TheVariants.{Reserved, Payload, Field, Both}
+use Rattle.psi.specs.contracts.packet.Adaptation.{the_type}
 use Rattle.psi.proofs.Packets.{good_parts}
 
 -- the fixed part of a section that is whole
@@ -100,9 +104,9 @@ section_shape rows row w s before high low pcr es eb eh el ep room small =
     ∙ (λ i. w ++ (0x02 ∷ byte s 1 ∷ byte s 2 ∷ eh i ∷ el i ∷ byte s 5 ∷ 0x00 ∷ 0x00 ∷ pid_high (byte s 8) (ep i) ∷ ep i % 0x100 ∷ lengths.0 i ∷ lengths.1 i ∷ (info ++ streams)))
 
 -- from the streams that were written to the section
-pub section_from : (rows : List Row) (row : Row) (before after w s : Bytes) (answer : Bool) (o : Option (List Stream)) → StreamsWritten rows row.parent before o after answer
+pub section_from : (rows : List Row) (row : Row) (before after w s : Bytes) (answer : Option (Unit {0})) (o : Option (List Stream)) → StreamsWritten rows row.parent before o after answer
     → ((es : List Stream) → before ++ flat_map stream_bytes (moved_all rows row.parent es) ≡ w ++ (0x02 ∷ byte s 1 ∷ byte s 2 ∷ section_body (patch_section rows row (section_with s es))))
-    → MatchOption o (answer ≡ false) (λ es. (answer ≡ true) × (after ≡ w ++ (0x02 ∷ byte s 1 ∷ byte s 2 ∷ section_body (patch_section rows row (section_with s es)))))
+    → MatchOption o (answer ≡ None) (λ es. (answer ≡ Some tt) × (after ≡ w ++ (0x02 ∷ byte s 1 ∷ byte s 2 ∷ section_body (patch_section rows row (section_with s es)))))
 section_from rows row before after w s answer None h e = h
 section_from rows row before after w s answer (Some es) h e = (h.0, h.1 ∙ e es)
 
@@ -117,6 +121,19 @@ payload_control control h =
     neither : (b : Bool) → payload_only (cond b Field Both) ≡ false
     neither true = refl
     neither false = refl
+
+-- the comparison of the code
+pub is_payload : (a : Adaptation) → not (sameb the_type a Payload) ≡ false → payload_only a ≡ true
+is_payload Reserved e = absurd (true≢false e)
+is_payload Payload e = refl
+is_payload Field e = absurd (true≢false e)
+is_payload Both e = absurd (true≢false e)
+
+pub not_payload : (a : Adaptation) → not (sameb the_type a Payload) ≡ true → payload_only a ≡ false
+not_payload Reserved e = refl
+not_payload Payload e = absurd (false≢true e)
+not_payload Field e = refl
+not_payload Both e = refl
 
 -- a packet in which a section starts behind the pointer
 pub record Opens (x : Bytes) : Type 0 where
@@ -143,19 +160,24 @@ opens_from x o =
 pub opens_not : (x : Bytes) → (Opens x → ⊥) → opens x ≡ false
 opens_not x none = ⊎_elim (λ t. absurd (none (opens_parts x t))) (λ f. f) (cases_Bool (opens x))
 
+-- what is answered with a value where a test passes
+pub answered_where : {X : Type 0} (r : Option X) (b : Bool) (v : X) (P : Type 0) (Q : X → Type 0) → r ≡ then_some b v → (b ≡ false → P) → (b ≡ true → Q v) → MatchOption r P Q
+answered_where r true v P Q e f t = subst (λ o. MatchOption o P Q) (sym e) (t refl)
+answered_where r false v P Q e f t = subst (λ o. MatchOption o P Q) (sym e) (f refl)
+
 -- what is answered without a value
 pub answered_none : {X : Type 0} (r : Option X) (P : Type 0) (Q : X → Type 0) → r ≡ None → P → MatchOption r P Q
 answered_none None P Q e p = p
 answered_none (Some x) P Q e p = let z : ◌≡◌ {A = ℕ} 0 1 = cc in absurd (omega arith)
 
--- a Bool tells which of two cases a clause speaks of
-pub told_none : {X : Type 0} (o : Option X) (answer : Bool) (Q : X → Type 0) → MatchOption o (answer ≡ false) (λ x. (answer ≡ true) × Q x) → answer ≡ false → o ≡ None
-told_none None answer Q h f = refl
-told_none (Some x) answer Q h f = absurd (both_ways answer f h.0)
+-- an answer tells which of two cases a clause speaks of
+pub told_none : {X : Type 0} (o : Option X) (answer : Option (Unit {0})) (Q : X → Type 0) → MatchOption o (answer ≡ None) (λ x. (answer ≡ Some tt) × Q x) → answer ≡ None → o ≡ None
+told_none None answer Q h e = refl
+told_none (Some x) answer Q h e = let z : ◌≡◌ {A = ℕ} 0 1 = cc (h.0, e) in absurd (omega arith)
 
-pub told_some : {X : Type 0} (o : Option X) (answer : Bool) (Q : X → Type 0) → MatchOption o (answer ≡ false) (λ x. (answer ≡ true) × Q x) → answer ≡ true → (x : X) × (o ≡ Some x) × Q x
-told_some None answer Q h t = absurd (both_ways answer h t)
-told_some (Some x) answer Q h t = (x, refl, h.1)
+pub told_some : {X : Type 0} (o : Option X) (answer : Option (Unit {0})) (Q : X → Type 0) → MatchOption o (answer ≡ None) (λ x. (answer ≡ Some tt) × Q x) → (u : Unit {0}) → answer ≡ Some u → (x : X) × (o ≡ Some x) × Q x
+told_some None answer Q h u e = let z : ◌≡◌ {A = ℕ} 0 1 = cc (h, e) in absurd (omega arith)
+told_some (Some x) answer Q h u e = (x, refl, h.1)
 
 module _ (rows : List Row) (row : Row) (x : Bytes) where
   pub unopened : opens x ≡ false → patched rows row x ≡ None

@@ -1,5 +1,6 @@
 -- CRC-32 as ISO/IEC 13818-1 has it, bit by bit: most significant bit first, a register that starts with all ones, no final inversion.
 use Rattle.std.specs.Prelude.{◌≡◌, ℕ, ◌*◌, ◌/◌, ◌%◌, ◌^◌, ◌<◌, List, [], ◌∷◌, ◌++◌, length, bit_xor, slice_index}
+use Rattle.std.specs.List.{fold}
 use Rattle.psi.specs.Packet.{Bytes}
 
 -- x³² + x²⁶ + x²³ + x²² + x¹⁶ + x¹² + x¹¹ + x¹⁰ + x⁸ + x⁷ + x⁵ + x⁴ + x² + x + 1, without its first term
@@ -32,8 +33,7 @@ pub record Tabled (table : List ℕ) : Type 0 where
 
 -- the register after some bytes
 abbrev pub crc_from : ℕ → Bytes → ℕ
-crc_from register [] = register
-crc_from register (b ∷ bs) = crc_from (crc_byte register b) bs
+crc_from register bs = fold crc_byte register bs
 
 unfoldable pub crc_of : Bytes → ℕ
 crc_of bs = crc_from 0xFFFFFFFF bs

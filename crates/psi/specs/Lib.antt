@@ -1,5 +1,6 @@
 pub mod Crc
 pub mod Delivery
+pub mod Fields
 pub mod Lookup
 pub mod Packet
 pub mod Pat

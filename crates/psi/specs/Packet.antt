@@ -1,8 +1,9 @@
 -- Transport packets of ISO/IEC 13818-1: the fields of the head, good packets, stuffing, and a packet with another PID.
-use Rattle.std.specs.Prelude.{◌≡◌, ℕ, ◌+◌, ◌-◌, ◌*◌, ◌/◌, ◌%◌, Bool, true, false, cond, ◌&&◌, List, ◌∷◌, ◌++◌, length, replicate, Some, None, Option, ◌==◌, nat_lt, slice_index, slice_set}
+use Rattle.std.specs.Prelude.{◌≡◌, ℕ, ◌-◌, ◌/◌, ◌%◌, Bool, true, false, cond, ◌&&◌, List, ◌∷◌, ◌++◌, length, replicate, Some, None, Option, ◌==◌, nat_lt, slice_index, slice_set}
 use Rattle.psi.specs.declared.packet.Adaptation.{Adaptation}
 use Rattle.psi.specs.declared.packet.Adaptation.TheVariants.{Reserved, Payload, Field, Both}
 use Rattle.psi.specs.declared.packet.Head.{Head}
+use Rattle.psi.specs.Fields.{number_in, flags_byte}
 
 abbrev pub Bytes : Type 0
 Bytes = List ℕ
@@ -26,7 +27,7 @@ start_of x = byte x 1 / 0x40 % 2 == 1
 
 -- the 13 bits of a PID below three others, in two bytes
 abbrev pub pid_in : ℕ → ℕ → ℕ
-pid_in high low = high % 0x20 * 0x100 + low
+pid_in high low = number_in 0x20 high low
 
 abbrev pub pid_of : Bytes → ℕ
 pid_of x = pid_in (byte x 1) (byte x 2)
@@ -62,7 +63,7 @@ head_of x =
 
 -- three flags above the five high bits of a PID
 abbrev pub pid_byte : ℕ → ℕ → ℕ
-pid_byte flags pid = flags * 0x20 + pid / 0x100 % 0x20
+pid_byte flags pid = flags_byte 0x20 flags pid
 
 -- a byte whose three high bits stay and whose five low bits are the high bits of a PID
 abbrev pub pid_high : ℕ → ℕ → ℕ

@@ -1,5 +1,5 @@
 -- The PMT: a program map section of ISO/IEC 13818-1 in one packet, as a shape; how it is written and read, and patching on the shape.
-use Rattle.std.specs.Prelude.{◌≡◌, ℕ, zero, suc, ◌+◌, ◌-◌, ◌*◌, ◌/◌, ◌%◌, ◌^◌, Bool, true, false, cond, ◌&&◌, List, [], ◌∷◌, ◌++◌, length, take, drop, Some, None, Option, MatchOption, ◌==◌, nat_le}
+use Rattle.std.specs.Prelude.{◌≡◌, ℕ, zero, suc, ◌+◌, ◌-◌, ◌*◌, ◌/◌, ◌%◌, ◌^◌, Bool, cond, ◌&&◌, List, [], ◌∷◌, ◌++◌, length, take, drop, Some, None, Option, MatchOption, ◌==◌, nat_le}
 use Rattle.std.specs.List.{flat_map}
 use Rattle.std.specs.Option.{option_map, unwrap_or}
 use Rattle.config.specs.declared.row.Row.{Row}
@@ -198,11 +198,11 @@ abbrev pub moved_all : List Row → ℕ → List Stream → List Stream
 moved_all rows parent [] = []
 moved_all rows parent (e ∷ es) = moved (out_of rows parent e.pid) e ++ moved_all rows parent es
 
--- After writing these streams behind what stood there, each under the PID that it leaves with; the answer is false where there are none to write,
+-- After writing these streams behind what stood there, each under the PID that it leaves with; the answer is None where there are none to write,
 -- since the bytes are no streams, and then nothing is said of what stands there.
-abbrev pub StreamsWritten : List Row → ℕ → Bytes → Option (List Stream) → Bytes → Bool → Type 0
+abbrev pub StreamsWritten : List Row → ℕ → Bytes → Option (List Stream) → Bytes → Option (Unit {0}) → Type 0
 StreamsWritten rows parent before streams after answer =
-    MatchOption streams (answer ≡ false) (λ es. (answer ≡ true) × (after ≡ before ++ flat_map stream_bytes (moved_all rows parent es)))
+    MatchOption streams (answer ≡ None) (λ es. (answer ≡ Some tt) × (after ≡ before ++ flat_map stream_bytes (moved_all rows parent es)))
 
 abbrev pub patch_section : List Row → Row → Section → Section
 patch_section rows row s =
@@ -218,10 +218,10 @@ patch_section rows row s =
     }
 
 -- The same of the bytes s of a section, but for its CRC. Its section_length is still the old one.
-abbrev pub SectionWritten : List Row → Row → Bytes → Bytes → Bytes → Bool → Type 0
+abbrev pub SectionWritten : List Row → Row → Bytes → Bytes → Bytes → Option (Unit {0}) → Type 0
 SectionWritten rows row before s after answer =
-    MatchOption (streams_of (stream_part s)) (answer ≡ false)
-    (λ es. (answer ≡ true) × (after ≡ before ++ (0x02 ∷ byte s 1 ∷ byte s 2 ∷ section_body (patch_section rows row (section_with s es)))))
+    MatchOption (streams_of (stream_part s)) (answer ≡ None)
+    (λ es. (answer ≡ Some tt) × (after ≡ before ++ (0x02 ∷ byte s 1 ∷ byte s 2 ∷ section_body (patch_section rows row (section_with s es)))))
 
 abbrev pub patch_pmt : List Row → Row → Pmt → Pmt
 patch_pmt rows row p =

@@ -1,15 +1,16 @@
 -- Sections of ISO/IEC 13818-1: lengths of 12 bits, and the section_length and CRC that close one.
-use Rattle.std.specs.Prelude.{ℕ, ◌+◌, ◌*◌, ◌/◌, ◌%◌, ◌++◌, length, take, drop, slice_set}
+use Rattle.std.specs.Prelude.{ℕ, ◌+◌, ◌/◌, ◌%◌, ◌++◌, length, take, drop, slice_set}
 use Rattle.psi.specs.Packet.{Bytes, byte}
 use Rattle.psi.specs.Crc.{sealed}
+use Rattle.psi.specs.Fields.{number_in, flags_byte}
 
 -- a length of 12 bits below four others, in two bytes
 abbrev pub length_in : ℕ → ℕ → ℕ
-length_in high low = high % 0x10 * 0x100 + low
+length_in high low = number_in 0x10 high low
 
 -- four flags above the four high bits of a length
 abbrev pub length_byte : ℕ → ℕ → ℕ
-length_byte flags n = flags * 0x10 + n / 0x100 % 0x10
+length_byte flags n = flags_byte 0x10 flags n
 
 -- a byte whose four high bits stay and whose four low bits are the high bits of a length
 abbrev pub length_high : ℕ → ℕ → ℕ

@@ -38,15 +38,14 @@ static TABLE: [u32; 256] = [
 ];
 
 // The CRC-32 of some bytes. With their own CRC behind them, the CRC is 0.
+#[tactic(auto, unfolding(crate::specs::Crc::crc_of))]
 pub fn crc32(bytes: &[u8]) -> u32
     ensures value { result ≡ crc_of bytes.now }
     ensures own { crc_of (bytes.now ++ four_bytes result) ≡ 0 }
 {
-    let mut register = 0xffff_ffff;
-    for byte in bytes {
-        register = step(register, *byte);
-    }
-    register
+    bytes
+        .iter()
+        .fold(0xffff_ffff, |register, byte| step(register, *byte))
 }
 
 // The register after one more byte.

@@ -5,24 +5,24 @@ ghost use Rattle.psi.specs.Delivery.{deliver_by, deliver as delivery_of, answer,
 ghost use Rattle.psi.specs.Packet.{good_packet};
 
 use crate::lookup::find_row;
-use crate::packet::{Head, changed};
+use crate::packet::{Head, LENGTH, changed};
 use crate::pmt::patch;
 use config::row::{Kind, Row};
 use config::table::Config;
 
 // The packet is not 188 bytes long, does not begin with the sync byte, or has its error indicator set.
-#[derive(Clone, Copy, Debug)]
+#[derive(Clone, Copy, Debug, PartialEq, Eq)]
 pub struct BadPacket;
 
 // What becomes of a good packet.
-#[derive(Drop)]
+#[derive(Debug, Drop, PartialEq, Eq)]
 pub enum Delivered {
     // no row is for it
     Unmapped,
     // its row is a `pmt` row, and it is not patchable
     Unpatchable,
     // the number of its row, and the packet as it leaves
-    Deliverable(usize, [u8; 188]),
+    Deliverable(usize, [u8; LENGTH]),
 }
 
 // What the map makes of a parent's packet.
@@ -38,17 +38,16 @@ pub fn deliver_by(rows: &[Row], parent: u8, packet: &[u8]) -> Result<Delivered, 
     ensures value { answer result ≡ (if good_packet packet.now then Some (deliver_by rows.now parent packet.now) else None) }
     ensures leaves { IfSome (answer result) (Leaves rows.now) }
 {
-    let Some(head) = Head::of(packet) else {
-        return Err(BadPacket);
-    };
+    let head = Head::of(packet).ok_or(BadPacket)?;
     let Some((number, row)) = find_row(rows, parent, head.pid) else {
         return Ok(Delivered::Unmapped);
     };
-    match row.kind {
-        Kind::Pass => Ok(Delivered::Deliverable(number, changed(packet, row.out))),
-        Kind::Pmt => match patch(rows, &row, packet) {
-            Some(patched) => Ok(Delivered::Deliverable(number, patched)),
-            None => Ok(Delivered::Unpatchable),
-        },
-    }
+    let left = match row.kind {
+        Kind::Pass => Some(changed(packet, row.out)),
+        Kind::Pmt => patch(rows, &row, packet),
+    };
+    Ok(match left {
+        Some(bytes) => Delivered::Deliverable(number, bytes),
+        None => Delivered::Unpatchable,
+    })
 }

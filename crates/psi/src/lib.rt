@@ -3,6 +3,7 @@
 
 pub mod crc;
 pub mod delivery;
+mod field;
 pub mod lookup;
 pub mod packet;
 pub mod pat;

@@ -1,12 +1,14 @@
 // Transport packets: heads, stuffing, and a changed PID.
 ghost use Rattle.std.specs.Prelude.{◌≡◌, length, IfSome, if◌then◌else◌, Some, None, Decides};
-ghost use Rattle.psi.specs.Packet.{head_of, adaptation_in, pid_in, pid_high, good_packet, with_pid, Framed, stuffing as stuffing_bytes};
+ghost use Rattle.psi.specs.Packet.{head_of, adaptation_in, good_packet, with_pid, Framed, stuffing as stuffing_bytes};
+
+use crate::field::{ABOVE_PID, number_in, with_number};
 
 // How many bytes a packet has.
 pub const LENGTH: usize = 188;
 
 // adaptation_field_control: what follows the head.
-#[derive(Clone, Copy, Debug)]
+#[derive(Clone, Copy, Debug, PartialEq, Eq)]
 pub enum Adaptation {
     Reserved,
     Payload,
@@ -15,7 +17,7 @@ pub enum Adaptation {
 }
 
 // The head of a good packet, as far as anything looks at it.
-#[derive(Clone, Copy)]
+#[derive(Clone, Copy, Debug, PartialEq, Eq)]
 pub struct Head {
     // payload_unit_start_indicator
     pub start: bool,
@@ -40,7 +42,7 @@ impl Head {
         }
         Some(Head {
             start: *b1 >> 6 == 1,
-            pid: pid_in(*b1, *b2),
+            pid: number_in::<ABOVE_PID>(*b1, *b2),
             scrambling: *b3 >> 6,
             adaptation: Adaptation::of(*b3 >> 4 & 3),
             counter: *b3 & 0x0f,
@@ -61,15 +63,8 @@ impl Adaptation {
     }
 }
 
-// The 13 bits of a PID below three others, in two bytes.
-pub(crate) fn pid_in(high: u8, low: u8) -> u16
-    ensures { result ≡ pid_in high low }
-{
-    u16::from(high & 0x1f) << 8 | u16::from(low)
-}
-
 // Stuffing: what a slot takes that has nothing else to take.
-pub fn stuffing() -> [u8; 188]
+pub fn stuffing() -> [u8; LENGTH]
     ensures value { result ≡ stuffing_bytes }
     ensures framed { Framed result }
 {
@@ -88,31 +83,22 @@ pub fn is_stuffing(packet: &[u8]) -> bool
 }
 
 // A good packet with another PID (of which the low 13 bits are taken), or `None` for one that is not good.
-pub fn with_pid(packet: &[u8], pid: u16) -> Option<[u8; 188]>
+pub fn with_pid(packet: &[u8], pid: u16) -> Option<[u8; LENGTH]>
     ensures value { result ≡ (if good_packet packet.now then Some (with_pid pid packet.now) else None) }
     ensures framed { IfSome result Framed }
 {
-    if Head::of(packet).is_none() {
-        return None;
-    }
+    Head::of(packet)?;
     Some(changed(packet, pid))
 }
 
 // A copy of a packet with another PID: of its bits only those 13 change.
-pub(crate) fn changed(packet: &[u8], pid: u16) -> [u8; 188]
+#[tactic(auto, unfolding(crate::specs::Packet::with_pid))]
+pub(crate) fn changed(packet: &[u8], pid: u16) -> [u8; LENGTH]
     requires { length packet.now ≡ 188 }
     ensures { result ≡ with_pid pid packet.now }
 {
     let mut changed = [0; LENGTH];
     changed.copy_from_slice(packet);
-    changed[1] = pid_high(changed[1], pid);
-    changed[2] = (pid & 0xff) as u8;
+    [changed[1], changed[2]] = with_number::<ABOVE_PID>(changed[1], pid);
     changed
-}
-
-// A byte whose three high bits stay, above the five high bits of a PID.
-pub(crate) fn pid_high(old: u8, pid: u16) -> u8
-    ensures { result ≡ pid_high old pid }
-{
-    old & 0xe0 | (pid >> 8 & 0x1f) as u8
 }

@@ -6,7 +6,8 @@ ghost use Rattle.psi.specs.Packet.{Framed};
 ghost use Rattle.psi.specs.Pat.{program_entry, programs, pat_packet, pat_copy, pairs_of, services};
 ghost use Rattle.psi.specs.Places.{written};
 
-use crate::packet::pid_high;
+use crate::field::{ABOVE_PID, with_number};
+use crate::packet::LENGTH;
 use crate::place::Place;
 use config::row::{Kind, Row};
 use config::table::Config;
@@ -15,20 +16,17 @@ use config::table::Config;
 const MOST: usize = 42;
 
 // PAT copy `copy` of frame `frame`. It reads back as the `pmt` rows' services and outs.
-pub fn pat_copy(config: &Config, frame: u32, copy: u32) -> [u8; 188]
+pub fn pat_copy(config: &Config, frame: u32, copy: u32) -> [u8; LENGTH]
     ensures value { result ≡ pat_copy (setup config.now) frame copy }
     ensures framed { Framed result }
     ensures reads { pairs_of result ≡ services (setup config.now).rows }
 {
     let counter = (u64::from(frame) * u64::from(config.copies()) + u64::from(copy)) % 16;
-    match pat(counter as u8, config.tsid(), config.rows()) {
-        Some(packet) => packet,
-        None => unreachable(),
-    }
+    pat(counter as u8, config.tsid(), config.rows()).unwrap()
 }
 
 // A PAT packet with a continuity counter (of which the low 4 bits are taken), or `None` where the `pmt` rows are more than 42.
-pub fn pat(counter: u8, tsid: u16, rows: &[Row]) -> Option<[u8; 188]>
+pub fn pat(counter: u8, tsid: u16, rows: &[Row]) -> Option<[u8; LENGTH]>
     ensures { result ≡ (if nat_le (pmts rows.now) 42 then Some (pat_packet (counter % 16) tsid rows.now) else None) }
 {
     if services_in(rows) > MOST {
@@ -47,14 +45,7 @@ pub fn pat(counter: u8, tsid: u16, rows: &[Row]) -> Option<[u8; 188]>
 fn services_in(rows: &[Row]) -> usize
     ensures { result ≡ pmts rows.now }
 {
-    let mut count = 0;
-    for row in rows {
-        match row.kind {
-            Kind::Pmt => count += 1,
-            Kind::Pass => {}
-        }
-    }
-    count
+    rows.iter().filter(|row| row.kind == Kind::Pmt).count()
 }
 
 // Writes the entry of each `pmt` row.
@@ -76,10 +67,6 @@ fn entry_of(row: &Row) -> [u8; 4]
     ensures { result ≡ program_entry row.now }
 {
     let [service_high, service_low] = row.service.to_be_bytes();
-    [
-        service_high,
-        service_low,
-        pid_high(0xe0, row.out),
-        (row.out & 0xff) as u8,
-    ]
+    let [out_high, out_low] = with_number::<ABOVE_PID>(0xe0, row.out);
+    [service_high, service_low, out_high, out_low]
 }

@@ -1,11 +1,13 @@
 // A place for one packet: it is written from the front on, and holds 0xFF behind what is written.
 ghost use Rattle.std.specs.Prelude.{◌≡◌, ◌-◌, ◌≤◌, length, drop, replicate};
 
+use crate::packet::LENGTH;
+
 pub(crate) mod writes;
 
 #[derive(Drop)]
 pub(crate) struct Place {
-    bytes: [u8; 188],
+    bytes: [u8; LENGTH],
     len: usize,
     ghost within: { len ≤ 188 },
     ghost long: { length bytes ≡ 188 },

@@ -4,7 +4,8 @@ ghost use Rattle.psi.specs.Packet.{Framed};
 ghost use Rattle.psi.specs.Patchable.{Patches, PatchedAgain};
 ghost use Rattle.psi.specs.Pmt.{patched, opens};
 
-use crate::packet::{Adaptation, Head, pid_high};
+use crate::field::{ABOVE_PID, with_number};
+use crate::packet::{Adaptation, Head, LENGTH};
 use crate::place::Place;
 use config::row::Row;
 
@@ -15,24 +16,17 @@ use section::{put_section, whole_section};
 
 // A packet under a `pmt` row as it leaves: patched; or `None` for one that is not patchable. Under a row and a table that keep its PIDs a patched
 // packet is patchable again, and stays as it is.
-pub fn patch(rows: &[Row], row: &Row, packet: &[u8]) -> Option<[u8; 188]>
+pub fn patch(rows: &[Row], row: &Row, packet: &[u8]) -> Option<[u8; LENGTH]>
     ensures value { result ≡ patched rows.now row.now packet.now }
     ensures framed { IfSome result Framed }
     ensures shape { Patches rows.now row.now packet.now result }
     ensures again { IfSome result (PatchedAgain rows.now row.now) }
 {
     let section = whole_section(opened(packet)?)?;
+    let [out_high, out_low] = with_number::<ABOVE_PID>(packet[1], row.out);
     let mut place = Place::new();
-    place.put_all(&[
-        0x47,
-        pid_high(packet[1], row.out),
-        (row.out & 0xff) as u8,
-        packet[3],
-        0x00,
-    ]);
-    if !put_section(&mut place, rows, row, section) {
-        return None;
-    }
+    place.put_all(&[0x47, out_high, out_low, packet[3], 0x00]);
+    put_section(&mut place, rows, row, section)?;
     place.close();
     Some(place.finish())
 }
@@ -45,14 +39,8 @@ fn opened(packet: &[u8]) -> Option<&[u8]>
     let [_, _, _, _, 0x00, bytes @ ..] = packet else {
         return None;
     };
-    match head.adaptation {
-        Adaptation::Payload => {
-            if head.start && head.scrambling == 0 {
-                Some(bytes)
-            } else {
-                None
-            }
-        }
-        Adaptation::Reserved | Adaptation::Field | Adaptation::Both => None,
+    if !head.start || head.scrambling != 0 || head.adaptation != Adaptation::Payload {
+        return None;
     }
+    Some(bytes)
 }

@@ -28,7 +28,7 @@ use std::io;
 
 mod words;
 
-use words::{bytes_in, cut, large_in, number_in, row_in, small_in};
+use words::{bytes_in, cut, number_in, row_in};
 
 fn main(rt: HostRuntime) -> io::Result<()> {
     let mut rows = Vec::new(rt.alloc());
@@ -107,7 +107,7 @@ fn show_pid(rt: &HostRuntime, line: &str) -> io::Result<()> {
 
 fn show_row(rt: &HostRuntime, rows: &[Row], line: &str) -> io::Result<()> {
     let (parent, pid) = cut(line);
-    match find_row(rows, small_in(parent), number_in(pid)) {
+    match find_row(rows, number_in(parent), number_in(pid)) {
         Some((number, _)) => println!(rt; "{number}"),
         None => println!(rt; "none"),
     }
@@ -115,7 +115,7 @@ fn show_row(rt: &HostRuntime, rows: &[Row], line: &str) -> io::Result<()> {
 
 fn show_pat(rt: &HostRuntime, rows: &[Row], line: &str) -> io::Result<()> {
     let (counter, tsid) = cut(line);
-    match pat(small_in(counter), number_in(tsid), rows) {
+    match pat(number_in(counter), number_in(tsid), rows) {
         Some(packet) => show_packet(rt, &packet),
         None => println!(rt; "none"),
     }
@@ -124,7 +124,7 @@ fn show_pat(rt: &HostRuntime, rows: &[Row], line: &str) -> io::Result<()> {
 fn show_delivery(rt: &HostRuntime, rows: &[Row], line: &str) -> io::Result<()> {
     let (parent, hex) = cut(line);
     let bytes = bytes_in(rt.alloc(), hex)?;
-    show_delivered(rt, deliver_by(rows, small_in(parent), bytes.as_slice()))
+    show_delivered(rt, deliver_by(rows, number_in(parent), bytes.as_slice()))
 }
 
 fn show_delivered(rt: &HostRuntime, delivered: Result<Delivered, BadPacket>) -> io::Result<()> {
@@ -152,14 +152,14 @@ fn configured(rt: &HostRuntime, word: &str, line: &str) -> io::Result<()> {
 fn by_config(rt: &HostRuntime, config: &Config, word: &str, line: &str) -> io::Result<()> {
     let (first, second) = cut(line);
     match word {
-        "copy" => show_packet(rt, &pat_copy(config, large_in(first), large_in(second))),
-        "number" => match row_of(config, small_in(first), number_in(second)) {
+        "copy" => show_packet(rt, &pat_copy(config, number_in(first), number_in(second))),
+        "number" => match row_of(config, number_in(first), number_in(second)) {
             Some(number) => println!(rt; "{number}"),
             None => println!(rt; "none"),
         },
         _ => {
             let bytes = bytes_in(rt.alloc(), second)?;
-            show_delivered(rt, deliver(config, small_in(first), bytes.as_slice()))
+            show_delivered(rt, deliver(config, number_in(first), bytes.as_slice()))
         }
     }
 }

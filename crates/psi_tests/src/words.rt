@@ -1,19 +1,17 @@
 // Words of a line: numbers, bytes in hex, rows of a map.
 use config::row::{Kind, Row};
 use std::alloc::{AllocError, Global};
+use std::str::FromStr;
 
 // The first word of a line, and what follows it.
 pub(crate) fn cut(line: &str) -> (&str, &str) {
-    match line.split_once(' ') {
-        Some(parts) => parts,
-        None => (line, ""),
-    }
+    line.split_once(' ').unwrap_or((line, ""))
 }
 
-// The bytes that a word writes in hex, up to the first that is none; `-` has none.
+// The bytes that a word writes in hex, two digits each; `-` has none.
 pub(crate) fn bytes_in(heap: Global, word: &str) -> Result<Vec<u8>, AllocError> {
     let mut bytes = Vec::new(heap);
-    for pair in word.as_bytes().chunks(2) {
+    for pair in word.as_bytes().chunks_exact(2) {
         if let [high, low] = pair {
             bytes.push(digit(*high) << 4 | digit(*low))?;
         }
@@ -31,24 +29,11 @@ fn digit(c: u8) -> u8 {
 }
 
 // The number that a word writes; 0 for any other word.
-pub(crate) fn number_in(word: &str) -> u16 {
-    match word.parse::<u16>() {
-        Ok(n) => n,
-        Err(_) => 0,
-    }
-}
-
-// The same at 32 bits.
-pub(crate) fn large_in(word: &str) -> u32 {
-    match word.parse::<u32>() {
-        Ok(n) => n,
-        Err(_) => 0,
-    }
-}
-
-// A number below 256.
-pub(crate) fn small_in(word: &str) -> u8 {
-    (number_in(word) & 0xff) as u8
+pub(crate) fn number_in<N: FromStr + Default + Drop>(word: &str) -> N
+where
+    N::Err: Drop,
+{
+    word.parse().unwrap_or_default()
 }
 
 // PARENT PID OUT KIND SERVICE.
@@ -58,7 +43,7 @@ pub(crate) fn row_in(line: &str) -> Row {
     let (out, line) = cut(line);
     let (kind, service) = cut(line);
     Row {
-        parent: small_in(parent),
+        parent: number_in(parent),
         pid: number_in(pid),
         out: number_in(out),
         kind: if kind == "pmt" { Kind::Pmt } else { Kind::Pass },

@@ -2,9 +2,10 @@
 ghost use Rattle.std.specs.Prelude.{◌≡◌, ◌+◌, ◌≤◌, [], ◌++◌, length, take, drop};
 ghost use Rattle.psi.specs.Packet.{filled};
 ghost use Rattle.psi.specs.Places.{written};
-ghost use Rattle.psi.specs.Sections.{closed, with_length, length_high};
+ghost use Rattle.psi.specs.Sections.{closed, with_length};
 
 use crate::crc::crc32;
+use crate::field::{ABOVE_LENGTH, with_number};
 use crate::packet::LENGTH;
 use crate::place::Place;
 
@@ -47,22 +48,14 @@ impl Place {
         ensures written { written self.new ≡ take 5 (written self.old) ++ with_length (drop 5 (written self.old)) }
         ensures len { self.new.len ≡ self.old.len }
     {
-        let length = self.len - 4;
-        self.bytes[6] = length_high(self.bytes[6], length);
-        self.bytes[7] = (length & 0xff) as u8;
+        let length = (self.len - 4) as u16;
+        [self.bytes[6], self.bytes[7]] = with_number::<ABOVE_LENGTH>(self.bytes[6], length);
     }
 
     // The packet, with 0xFF behind what is written.
-    pub(crate) fn finish(self) -> [u8; 188]
+    pub(crate) fn finish(self) -> [u8; LENGTH]
         ensures { result ≡ filled (written self) }
     {
         self.bytes
     }
-}
-
-// A byte whose four high bits stay, above the four high bits of a length.
-fn length_high(old: u8, length: usize) -> u8
-    ensures { result ≡ length_high old length }
-{
-    old & 0xf0 | (length >> 8 & 0x0f) as u8
 }

@@ -5,10 +5,10 @@ ghost use Rattle.psi.specs.Pmt.{fixed_part, right_crc, before_crc, info_length, 
 ghost use Rattle.psi.specs.Sections.{section_length};
 
 use crate::crc::crc32;
+use crate::field::{ABOVE_LENGTH, ABOVE_PID, number_in, with_number};
 use crate::lookup::out_of;
-use crate::packet::{pid_high, pid_in};
 use crate::place::Place;
-use crate::pmt::streams::{length_in, put_streams};
+use crate::pmt::streams::put_streams;
 use config::row::Row;
 
 // PCR_PID of a service whose PCR has no row.
@@ -18,18 +18,9 @@ const NO_PCR: u16 = 8_191;
 pub(crate) fn whole_section(bytes: &[u8]) -> Option<&[u8]>
     ensures { MatchOption result ((fixed_part bytes.now && right_crc bytes.now) ≡ false) (λ s. ((fixed_part bytes.now && right_crc bytes.now) ≡ true) × (s.now ≡ before_crc bytes.now) × (12 + info_length s.now ≤ length s.now) × (length s.now ≤ 179)) }
 {
-    let place = crc_place(bytes)?;
-    let section = &bytes[0..place];
-    let crc = u32::from_be_bytes([
-        bytes[place],
-        bytes[place + 1],
-        bytes[place + 2],
-        bytes[place + 3],
-    ]);
-    if crc32(section) != crc {
-        return None;
-    }
-    Some(section)
+    let (section, rest) = bytes.split_at(crc_place(bytes)?);
+    let crc = u32::from_be_bytes(*rest.first_chunk()?);
+    (crc32(section) == crc).then_some(section)
 }
 
 // Where the CRC of the section stands that some bytes begin with, if it is whole and its fixed part is as it has to be.
@@ -54,23 +45,25 @@ fn crc_place(bytes: &[u8]) -> Option<usize>
     else {
         return None;
     };
-    let length = length_in(*high, *low);
+    let length = usize::from(number_in::<ABOVE_LENGTH>(*high, *low));
     if *high < 0x80 || length < 13 || length > 180 || length + 3 > bytes.len() {
         return None;
     }
-    if length_in(*info_high, *info_low) + 13 > length {
+    if usize::from(number_in::<ABOVE_LENGTH>(*info_high, *info_low)) + 13 > length {
         return None;
     }
     Some(length - 1)
 }
 
-// Writes a section as it leaves under a row, but for its section_length and its CRC. Answers whether streams fill its end exactly.
-pub(crate) fn put_section(place: &mut Place, rows: &[Row], row: &Row, section: &[u8]) -> bool
+// Writes a section as it leaves under a row, but for its section_length and its CRC. `None` where no streams fill its end exactly.
+pub(crate) fn put_section(place: &mut Place, rows: &[Row], row: &Row, section: &[u8]) -> Option<()>
     requires { (12 + info_length section.now ≤ length section.now) × (place.old.len + length section.now ≤ 184) }
     ensures written { SectionWritten rows.now row.now (written place.old) section.now (written place.new) result }
     ensures len { (place.old.len + 12 ≤ place.new.len) × (place.new.len ≤ place.old.len + length section.now) }
 {
-    let pcr = out_of(rows, row.parent, pid_in(section[8], section[9])).unwrap_or(NO_PCR);
+    let pcr = number_in::<ABOVE_PID>(section[8], section[9]);
+    let pcr_out = out_of(rows, row.parent, pcr).unwrap_or(NO_PCR);
+    let [pcr_high, pcr_low] = with_number::<ABOVE_PID>(section[8], pcr_out);
     let [service_high, service_low] = row.service.to_be_bytes();
     place.put_all(&[
         0x02,
@@ -82,13 +75,9 @@ pub(crate) fn put_section(place: &mut Place, rows: &[Row], row: &Row, section: &
         0x00,
         0x00,
     ]);
-    place.put_all(&[
-        pid_high(section[8], pcr),
-        (pcr & 0xff) as u8,
-        section[10],
-        section[11],
-    ]);
-    let streams = 12 + length_in(section[10], section[11]);
-    place.put_all(&section[12..streams]);
-    put_streams(place, rows, row.parent, &section[streams..])
+    place.put_all(&[pcr_high, pcr_low, section[10], section[11]]);
+    let info_length = number_in::<ABOVE_LENGTH>(section[10], section[11]);
+    let (info, streams) = section[12..].split_at(usize::from(info_length));
+    place.put_all(info);
+    put_streams(place, rows, row.parent, streams)
 }

@@ -1,13 +1,11 @@
-use Rattle.std.proofs.Common.{◌≡◌, false, is_some, sym, refl, ap, ◌∙◌, ⊎_elim, arith}
+use Rattle.std.proofs.Common.{is_some, sym, ap, ◌∙◌, arith}
 use Rattle.std.proofs.lemmas.List.{take_rest}
 use Rattle.std.proofs.lemmas.Bool.{both_ways, ltb-true}
-use Rattle.psi.specs.declared.packet.Adaptation.{Adaptation}
-use Rattle.psi.specs.declared.packet.Adaptation.TheVariants.{Reserved, Field, Both}
 use Rattle.psi.specs.Packet.{payload_only}
 use Rattle.psi.proofs.Packets.{Headed, headed, head_bad, good_parts}
-use Rattle.psi.proofs.Shapes.{Opens, opens_from, opens_not, answered_none}
+use Rattle.psi.proofs.Shapes.{Opens, opens_from, opens_not, answered_none, is_payload, not_payload}
 use Rattle.psi.proofs.pmt.opened.Goals as goal
-use Rattle.psi.proofs.pmt.opened.Goals.{In_ok-head, in_default-via-then-packet-lt5, in_default-via-else-packet-lt5+in_default-1, else-head-via-then-head+else-head-eq0, else-head-via-else-head}
+use Rattle.psi.proofs.pmt.opened.Goals.{In_ok-head, in_default-via-then-packet-lt5, in_default-via-else-packet-lt5+in_default-1, then-not-head-via-then-not-head, then-not-head-via-else-not-head+then-head-ne0, then-not-head-via-else-not-head+else-head-ne0+then-ne}
 
 known : (c : In_ok-head) → Headed c.args.packet.now c.in_ok-head.head
 known c = headed c.args.packet.now c.in_ok-head.head c.in_ok-head.ensures
@@ -23,34 +21,27 @@ returns-in_default c =
     opens_not c.args.packet.now
     (λ o. let g = good_parts _ o.good in elim c.in_default.branch [ in_default-via-then-packet-lt5 w ↦ omega (arith, ltb-true) | in_default-via-else-packet-lt5+in_default-1 w ↦ omega arith ])
 
-pub returns-then-head-eq0 : goal.returns-then-head-eq0
-returns-then-head-eq0 c =
+pub returns-then-not-head : goal.returns-then-not-head
+returns-then-not-head c =
+    let h = known (goal.at.returns-then-not-head c).In_ok-head in
+    opens_not c.args.packet.now
+    (λ o.
+    elim c.then-not-head.branch [
+      | then-not-head-via-then-not-head w ↦ both_ways _ w.if-not-head.true (h.start ∙ o.start)
+      | then-not-head-via-else-not-head+then-head-ne0 w ↦ w.if-head-ne0.true (h.scrambling ∙ o.clear)
+      | then-not-head-via-else-not-head+else-head-ne0+then-ne w ↦ both_ways _ (ap payload_only (sym h.adaptation) ∙ not_payload _ (sym w.ne.ensures ∙ w.if-ne.true)) o.payload
+    ])
+
+pub returns : goal.returns
+returns c =
     let x = c.args.packet.now in
-    let h = known (goal.at.returns-then-head-eq0 c).In_ok-head in
+    let h = known (goal.at.returns c).In_ok-head in
     let o : Opens x =
     record {
       good = h.good;
-      start = sym h.start ∙ c.if-head.true;
-      clear = sym h.scrambling ∙ c.if-head-eq0.true;
-      payload = ap payload_only (sym h.adaptation ∙ c.in-Payload.is);
+      start = sym h.start ∙ c.if-not-head.false;
+      clear = sym h.scrambling ∙ c.if-head-ne0.false;
+      payload = ap payload_only (sym h.adaptation) ∙ is_payload _ (sym c.ne.ensures ∙ c.if-ne.false);
       pointer = omega arith;
     } in
     (opens_from x o, take_rest x 5, (good_parts x h.good).long)
-
-pub returns-else-head : goal.returns-else-head
-returns-else-head c =
-    let h = known (goal.at.returns-else-head c).In_ok-head in
-    opens_not c.args.packet.now
-    (λ o.
-    elim c.else-head.branch [
-      | else-head-via-then-head+else-head-eq0 w ↦ w.if-head-eq0.false (h.scrambling ∙ o.clear)
-      | else-head-via-else-head w ↦ both_ways _ w.if-head.false (h.start ∙ o.start)
-    ])
-
-pub returns-in-Reserved : goal.returns-in-Reserved
-returns-in-Reserved c =
-    let h = known (goal.at.returns-in-Reserved c).In_ok-head in
-    let other : (a : Adaptation) → payload_only a ≡ false → c.in_ok-head.head.adaptation ≡ a → Opens c.args.packet.now → ⊥ =
-    λ a f e o. both_ways _ (ap payload_only (sym h.adaptation ∙ e) ∙ f) o.payload in
-    opens_not c.args.packet.now
-    (λ o. ⊎_elim (λ e. other Reserved refl e o) (⊎_elim (λ e. other Field refl e o) (λ e. other Both refl e o)) c.in-Reserved.is)

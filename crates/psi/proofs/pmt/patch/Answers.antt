@@ -1,10 +1,9 @@
-use Rattle.std.proofs.Common.{◌≡◌, ◌%◌, true, false, ◌&&◌, [], ◌∷◌, ◌++◌, drop, Some, None, sym, ap, ◌∙◌, subst}
+use Rattle.std.proofs.Common.{◌≡◌, ◌%◌, true, false, ◌&&◌, [], ◌∷◌, ◌++◌, get_or, drop, Some, sym, ap, ◌∙◌, subst}
 use Rattle.psi.specs.Packet.{Bytes, byte, pid_high, filled}
 use Rattle.psi.specs.Places.{written}
 use Rattle.psi.specs.Pmt.{fixed_part, right_crc, before_crc, section_body, section_with, patch_section, SectionWritten}
 use Rattle.psi.specs.Sections.{closed}
 use Rattle.psi.proofs.Again.{told}
-use Rattle.psi.proofs.Masks.{low_eight}
 use Rattle.psi.proofs.Shapes.{unopened, unsound, unfilled, patched_some, closed_pmt, opens_parts, told_none, told_some}
 use Rattle.psi.proofs.pmt.patch.Goals as goal
 use Rattle.psi.proofs.pmt.patch.Goals.{In_ok-section, After-put_section}
@@ -32,12 +31,13 @@ wrote c =
     subst (λ (s : Bytes). SectionWritten c.args.rows.now c.args.row.now (written c.put_all.new.self) s (written c.put_section.new.place) c.put_section.result)
     (c.in_ok-section.ensures.1 ∙ ap before_crc c.in_ok-opened.ensures.1) c.put_section.ensures.written
 
-pub returns-then-not-put_section : goal.returns-then-not-put_section
-returns-then-not-put_section c =
-    let d = (goal.at.returns-then-not-put_section c).After-put_section in
-    told c.args.rows.now c.args.row.now c.args.packet.now None (λ i. (c.type_inv.packet i).fits)
-    (sym (unfilled c.args.rows.now c.args.row.now c.args.packet.now c.in_ok-opened.ensures.0 (sound (goal.at.returns-then-not-put_section c).In_ok-section)
-    (told_none _ c.put_section.result _ (wrote d) c.if-not-put_section.true)))
+pub returns-in_err-put_section : goal.returns-in_err-put_section
+returns-in_err-put_section c =
+    let d = (goal.at.returns-in_err-put_section c).After-put_section in
+    told c.args.rows.now c.args.row.now c.args.packet.now c.from_residual-in_err-put_section.result (λ i. (c.type_inv.packet i).fits)
+    (c.from_residual-in_err-put_section.ensures
+    ∙ sym (unfilled c.args.rows.now c.args.row.now c.args.packet.now c.in_ok-opened.ensures.0 (sound (goal.at.returns-in_err-put_section c).In_ok-section)
+    (told_none _ c.put_section.result _ (wrote d) c.in_err-put_section.was)))
 
 pub returns : goal.returns
 returns c =
@@ -47,9 +47,9 @@ returns c =
     let rows = c.args.rows.now in
     let s : Bytes = before_crc (drop 5 x) in
     let opened = c.in_ok-opened.ensures.0 in
-    let got = told_some _ c.put_section.result _ (wrote d) c.if-not-put_section.false in
+    let got = told_some _ c.put_section.result _ (wrote d) tt c.in_ok-put_section.was in
     let head : written c.put_all.new.self ≡ 0x47 ∷ pid_high (byte x 1) row.out ∷ row.out % 0x100 ∷ byte x 3 ∷ 0x00 ∷ [] =
-    c.put_all.ensures.written ∙ (λ i. c.new-place.ensures.written i ++ (0x47 ∷ c.pid_high.ensures i ∷ low_eight row.out i ∷ byte x 3 ∷ 0x00 ∷ [])) in
+    c.put_all.ensures.written ∙ (λ i. c.new-place.ensures.written i ++ (0x47 ∷ get_or (c.with_number.ensures i) 0 0 ∷ get_or (c.with_number.ensures i) 1 0 ∷ byte x 3 ∷ 0x00 ∷ [])) in
     told rows row x (Some c.finish.result) (λ i. (c.type_inv.packet i).fits)
     (ap Some
     (c.finish.ensures

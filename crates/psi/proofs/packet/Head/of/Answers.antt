@@ -25,5 +25,5 @@ returns c =
     let good : Good c.args.packet.now = record { long = omega arith; sync = omega arith; clear = omega arith } in
     let x = c.args.packet.now in
     let start : byte x 1 / 0x40 ≡ byte x 1 / 0x40 % 2 = omega arith in
-    (λ i. Some (record { start = eqb (start i) 1; pid = c.pid_in.ensures i; scrambling = scrambling_of x; adaptation = (c.of.ensures ∙ ap adaptation_in (low_two (byte x 3 / 0x10))) i; counter = low_four (byte x 3) i }))
+    (λ i. Some (record { start = eqb (start i) 1; pid = c.number_in.ensures i; scrambling = scrambling_of x; adaptation = (c.of.ensures ∙ ap adaptation_in (low_two (byte x 3 / 0x10))) i; counter = low_four (byte x 3) i }))
     ∙ sym (cond-true _ _ None (good_from x good))

@@ -1,4 +1,4 @@
-use Rattle.std.proofs.Common.{◌-◌, ap, arith}
+use Rattle.std.proofs.Common.{◌-◌, ap, ◌∙◌, arith}
 use Rattle.std.proofs.lemmas.Bool.{ltb-true}
 use Rattle.psi.proofs.Shapes.{Fixed, fixed_from, fixed_not}
 use Rattle.psi.proofs.pmt.section.crc_place.Goals as goal
@@ -27,11 +27,11 @@ returns-then-high-lt128 c =
       | then-high-lt128-via-else-high-lt128+else-length-lt13+else-length-gt180+then-length-bytes w ↦ omega arith
     ])
 
-pub returns-then-length_in-length : goal.returns-then-length_in-length
-returns-then-length_in-length c = fixed_not c.args.bytes.now (λ f. omega arith)
+pub returns-then-from-length : goal.returns-then-from-length
+returns-then-from-length c = fixed_not c.args.bytes.now (λ f. omega arith)
 
 pub returns : goal.returns
 returns c =
     let fixed : Fixed c.args.bytes.now =
     record { table = omega arith; syntax = omega arith; least = omega arith; most = omega arith; whole = omega arith; first = omega arith; last = omega arith; room = omega arith } in
-    (fixed_from c.args.bytes.now fixed, ap (λ n. n - 1) c.length_in-length.ensures, omega arith)
+    (fixed_from c.args.bytes.now fixed, ap (λ n. n - 1) (c.from-length.ensures ∙ c.number_in.ensures), omega arith)

@@ -1,10 +1,9 @@
-use Rattle.std.proofs.Common.{◌≡◌, ◌+◌, ◌-◌, ◌%◌, [], ◌∷◌, ◌++◌, length, get_or, take, drop, unwrap_or, ap, ◌∙◌, subst, arith, length-drop}
-use Rattle.std.proofs.lemmas.List.{take_rest, length-take-le}
+use Rattle.std.proofs.Common.{◌≡◌, ◌+◌, ◌%◌, [], ◌∷◌, ◌++◌, length, get_or, take, drop, unwrap_or, ap, ◌∙◌, subst, arith, length-drop}
+use Rattle.std.proofs.lemmas.List.{take_rest, drop-drop, length-take-le}
 use Rattle.psi.specs.Lookup.{out_of}
 use Rattle.psi.specs.Packet.{Bytes, byte, pid_in, pid_high}
 use Rattle.psi.specs.Places.{written}
 use Rattle.psi.specs.Pmt.{stream_part, streams_of, info_length, no_pcr, StreamsWritten}
-use Rattle.psi.proofs.Masks.{low_eight}
 use Rattle.psi.proofs.Shapes.{section_shape, section_from}
 use Rattle.psi.proofs.pmt.section.put_section.Goals as goal
 
@@ -15,17 +14,17 @@ returns c =
     let rows = c.args.rows.now in
     let w = written c.args.place.now in
     let n = info_length s in
-    let count : 12 + c.length_in-streams.result - 12 ≡ n = omega (arith, c.length_in-streams.ensures) in
-    let pcr : c.unwrap_or-pcr.result ≡ unwrap_or (out_of rows row.parent (pid_in (byte s 8) (byte s 9))) no_pcr =
-    c.unwrap_or-pcr.ensures ∙ ap (λ o. unwrap_or o no_pcr) (c.out_of.ensures ∙ ap (out_of rows row.parent) c.pid_in.ensures) in
+    let pcr : c.unwrap_or-pcr_out.result ≡ unwrap_or (out_of rows row.parent (pid_in (byte s 8) (byte s 9))) no_pcr =
+    c.unwrap_or-pcr_out.ensures ∙ ap (λ o. unwrap_or o no_pcr) (c.out_of.ensures ∙ ap (out_of rows row.parent) c.number_in-pcr.ensures) in
     let service = c.to_be_bytes.ensures in
-    let before : written c.put_all-3.new.self ≡ ((w ++ (0x02 ∷ byte s 1 ∷ byte s 2 ∷ get_or c.to_be_bytes.result 0 0 ∷ get_or c.to_be_bytes.result 1 0 ∷ byte s 5 ∷ 0x00 ∷ 0x00 ∷ [])) ++ (pid_high (byte s 8) c.unwrap_or-pcr.result ∷ c.unwrap_or-pcr.result % 0x100 ∷ byte s 10 ∷ byte s 11 ∷ [])) ++ take n (drop 12 s) =
+    let out = c.with_number.ensures in
+    let count : c.from.result ≡ n = c.from.ensures ∙ c.number_in-info_length.ensures in
+    let info : c.split_at.result.0.now ≡ take n (drop 12 s) = c.split_at.ensures.front ∙ (λ i. take (count i) (take_rest s 12 i)) in
+    let streams : c.split_at.result.1.now ≡ stream_part s = c.split_at.ensures.back ∙ (λ i. drop (count i) (take_rest s 12 i)) ∙ drop-drop n 12 s in
+    let before : written c.put_all-3.new.self ≡ ((w ++ (0x02 ∷ byte s 1 ∷ byte s 2 ∷ get_or c.to_be_bytes.result 0 0 ∷ get_or c.to_be_bytes.result 1 0 ∷ byte s 5 ∷ 0x00 ∷ 0x00 ∷ [])) ++ (pid_high (byte s 8) c.unwrap_or-pcr_out.result ∷ c.unwrap_or-pcr_out.result % 0x100 ∷ byte s 10 ∷ byte s 11 ∷ [])) ++ take n (drop 12 s) =
     c.put_all-3.ensures.written
-    ∙ (λ i. (c.put_all-2.ensures.written ∙ (λ j. c.put_all.ensures.written j ++ (c.pid_high.ensures j ∷ low_eight c.unwrap_or-pcr.result j ∷ byte s 10 ∷ byte s 11 ∷ []))) i ++ take (count i) (drop 12 s)) in
-    let streams : take (length s - (12 + c.length_in-streams.result)) (drop (12 + c.length_in-streams.result) s) ≡ stream_part s =
-    take_rest s (12 + c.length_in-streams.result) ∙ ap (λ m. drop (12 + m) s) c.length_in-streams.ensures in
-    let info-long : length (take (12 + c.length_in-streams.result - 12) (drop 12 s)) ≡ n =
-    ap (λ m. length (take m (drop 12 s))) count ∙ length-take-le n (drop 12 s) (simp length-drop (omega (arith, c.requires.0))) in
+    ∙ (λ i. (c.put_all-2.ensures.written ∙ (λ j. c.put_all.ensures.written j ++ (get_or (out j) 0 0 ∷ get_or (out j) 1 0 ∷ byte s 10 ∷ byte s 11 ∷ []))) i ++ info i) in
+    let info-long : length c.split_at.result.0.now ≡ n = ap length info ∙ length-take-le n (drop 12 s) (simp length-drop (omega (arith, c.requires.0))) in
     let streams-long = ap length streams ∙ length-drop (12 + n) s in
     let l1 = c.put_all.ensures.len in
     let l2 = c.put_all-2.ensures.len in

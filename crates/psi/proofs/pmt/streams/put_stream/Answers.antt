@@ -1,9 +1,8 @@
-use Rattle.std.proofs.Common.{[], ◌∷◌, ◌++◌, drop, ap, ◌∙◌, append_assoc, arith, length-drop}
+use Rattle.std.proofs.Common.{[], ◌∷◌, ◌++◌, get_or, drop, ap, ◌∙◌, append_assoc, arith, length-drop}
 use Rattle.std.proofs.lemmas.List.{take_rest}
 use Rattle.psi.specs.Packet.{Bytes, byte}
 use Rattle.psi.specs.Places.{written}
 use Rattle.psi.proofs.Entries.{with_pid_front}
-use Rattle.psi.proofs.Masks.{low_eight}
 use Rattle.psi.proofs.pmt.streams.put_stream.Goals as goal
 
 pub returns : goal.returns
@@ -14,7 +13,7 @@ returns c =
       written =
           c.put_all-2.ensures.written
           ∙ (λ i. c.put_all.ensures.written i ++ take_rest s 3 i)
-          ∙ (λ i. (w ++ (byte s 0 ∷ c.pid_high.ensures i ∷ low_eight c.args.pid i ∷ [])) ++ drop 3 s)
+          ∙ (λ i. (w ++ (byte s 0 ∷ get_or (c.with_number.ensures i) 0 0 ∷ get_or (c.with_number.ensures i) 1 0 ∷ [])) ++ drop 3 s)
           ∙ append_assoc w _ (drop 3 s)
           ∙ ap (λ (l : Bytes). w ++ l) (with_pid_front s c.args.pid (omega (arith, c.requires.0)));
       len = c.put_all-2.ensures.len ∙ (let l = c.put_all.ensures.len in simp (take_rest, length-drop) (omega (arith, c.requires.0)));

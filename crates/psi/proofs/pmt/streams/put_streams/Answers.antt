@@ -5,7 +5,7 @@ use Rattle.std.proofs.lemmas.Bool.{eqb-true, eqb-false}
 use Rattle.psi.specs.Lookup.{out_of}
 use Rattle.psi.specs.Packet.{Bytes, byte, pid_in, with_pid}
 use Rattle.psi.specs.Places.{written}
-use Rattle.psi.specs.Pmt.{stream_length, streams_of}
+use Rattle.psi.specs.Pmt.{stream_length, streams_of, StreamsWritten}
 use Rattle.psi.proofs.Entries.{adds, streams_none, one_moved, one_gone, ended_wrong, ended_right}
 use Rattle.psi.proofs.pmt.streams.put_streams.Goals as goal
 use Rattle.psi.proofs.pmt.streams.put_streams.Goals.{After-out_of, After-split_stream}
@@ -16,12 +16,12 @@ loop-rest-init c = (omega arith, omega arith, (λ i. (c.type_inv.bytes i).fits),
 some : (c : After-split_stream) → 0 < length c.loop-rest.rest.now
 some c = omega (arith, eqb-false (length c.loop-rest.rest.now) 0 (sym c.loop-rest-test.ensures))
 
-pub returns-in_default : goal.returns-in_default
-returns-in_default c =
+pub returns-in_err-stream : goal.returns-in_err-stream
+returns-in_err-stream c =
     let p = c.args.place.now in
-    let none = streams_none c.loop-rest.rest.now (some (goal.at.returns-in_default c).After-split_stream) c.in_default.ensures in
+    let none = streams_none c.loop-rest.rest.now (some (goal.at.returns-in_err-stream c).After-split_stream) c.in_err-stream.ensures in
     record {
-      written = ended_wrong c.args.rows.now c.args.parent (written p) _ _ (sym c.loop-rest.invariant.3 ∙ ap (option_map (adds c.args.rows.now c.args.parent (written c.loop-rest.place))) none);
+      written = subst (StreamsWritten c.args.rows.now c.args.parent (written p) (streams_of c.args.bytes.now) (written c.loop-rest.place)) (sym c.from_residual.ensures) (ended_wrong c.args.rows.now c.args.parent (written p) _ _ (sym c.loop-rest.invariant.3 ∙ ap (option_map (adds c.args.rows.now c.args.parent (written c.loop-rest.place))) none));
       len = (c.loop-rest.invariant.0, omega (arith, c.loop-rest.invariant.1));
     }
 
@@ -30,34 +30,34 @@ looked : (c : After-out_of) → c.out_of.result ≡ out_of c.args.rows.now c.arg
 looked c =
     let rest = c.loop-rest.rest.now in
     let n = stream_length rest in
-    let front = c.in-Some.ensures.1 in
+    let front = c.in_ok-stream.ensures.1 in
     c.out_of.ensures
     ∙ ap (out_of c.args.rows.now c.args.parent)
-    (c.pid_in.ensures
+    (c.number_in-pid.ensures
     ∙ ap (λ (s : Bytes). pid_in (byte s 1) (byte s 2)) front
     ∙ (λ i. pid_in (get_or-take n rest 1 0 (omega arith) i) (get_or-take n rest 2 0 (omega arith) i)))
 
 -- what is left is shorter, by the stream
-shorter : (c : After-out_of) → (length c.in-Some.stream.now ≡ stream_length c.loop-rest.rest.now) × (length c.in-Some.after.now + stream_length c.loop-rest.rest.now ≡ length c.loop-rest.rest.now)
+shorter : (c : After-out_of) → (length c.in_ok-stream.stream.now ≡ stream_length c.loop-rest.rest.now) × (length c.in_ok-stream.after.now + stream_length c.loop-rest.rest.now ≡ length c.loop-rest.rest.now)
 shorter c =
     let rest = c.loop-rest.rest.now in
-    let told = c.in-Some.ensures in
+    let told = c.in_ok-stream.ensures in
     (ap length told.1 ∙ length-take-le (stream_length rest) rest told.0, (let l = ap length told.2 ∙ length-drop (stream_length rest) rest in omega (arith, told.0)))
 
-small : (c : After-out_of) (i : ℕ) → get_or c.in-Some.after.now i 0 < 0x100
+small : (c : After-out_of) (i : ℕ) → get_or c.in_ok-stream.after.now i 0 < 0x100
 small c i =
     let rest = c.loop-rest.rest.now in
-    subst (λ n. n < 0x100) (sym (ap (λ (s : Bytes). get_or s i 0) c.in-Some.ensures.2 ∙ get_or-drop (stream_length rest) rest i 0)) (c.loop-rest.invariant.2 (stream_length rest + i))
+    subst (λ n. n < 0x100) (sym (ap (λ (s : Bytes). get_or s i 0) c.in_ok-stream.ensures.2 ∙ get_or-drop (stream_length rest) rest i 0)) (c.loop-rest.invariant.2 (stream_length rest + i))
 
-pub loop-rest-smaller-in-Some-out_of : goal.loop-rest-smaller-in-Some-out_of
-loop-rest-smaller-in-Some-out_of c = let l = (shorter (goal.at.loop-rest-smaller-in-Some-out_of c).After-out_of).1 in omega arith
+pub loop-rest-smaller-in-Some : goal.loop-rest-smaller-in-Some
+loop-rest-smaller-in-Some c = let l = (shorter (goal.at.loop-rest-smaller-in-Some c).After-out_of).1 in omega arith
 
-pub loop-rest-preserved-in-Some-out_of : goal.loop-rest-preserved-in-Some-out_of
-loop-rest-preserved-in-Some-out_of c =
-    let d = (goal.at.loop-rest-preserved-in-Some-out_of c).After-out_of in
+pub loop-rest-preserved-in-Some : goal.loop-rest-preserved-in-Some
+loop-rest-preserved-in-Some c =
+    let d = (goal.at.loop-rest-preserved-in-Some c).After-out_of in
     let rest = c.loop-rest.rest.now in
     let rows = c.args.rows.now in
-    let told = c.in-Some.ensures in
+    let told = c.in_ok-stream.ensures in
     let lengths = shorter d in
     let inv = c.loop-rest.invariant in
     let len = c.put_stream.ensures.len in (
@@ -65,8 +65,8 @@ loop-rest-preserved-in-Some-out_of c =
       omega (arith, inv.1, lengths.0, lengths.1),
       small d,
       ap (λ (s : Bytes). option_map (adds rows c.args.parent (written c.put_stream.new.place)) (streams_of s)) told.2
-          ∙ one_moved rows c.args.parent (written c.loop-rest.place) rest _ (some (goal.at.loop-rest-preserved-in-Some-out_of c).After-split_stream) told.0 inv.3 _ c.in-Some-out_of.out (inv.2 4) (sym (looked d) ∙ c.in-Some-out_of.is)
-          (c.put_stream.ensures.written ∙ ap (λ (s : Bytes). written c.loop-rest.place ++ with_pid c.in-Some-out_of.out s) told.1),
+          ∙ one_moved rows c.args.parent (written c.loop-rest.place) rest _ (some (goal.at.loop-rest-preserved-in-Some c).After-split_stream) told.0 inv.3 _ c.in-Some.out (inv.2 4) (sym (looked d) ∙ c.in-Some.is)
+          (c.put_stream.ensures.written ∙ ap (λ (s : Bytes). written c.loop-rest.place ++ with_pid c.in-Some.out s) told.1),
     )
 
 pub loop-rest-smaller : goal.loop-rest-smaller
@@ -77,14 +77,14 @@ loop-rest-preserved c =
     let d = (goal.at.loop-rest-preserved c).After-out_of in
     let rest = c.loop-rest.rest.now in
     let rows = c.args.rows.now in
-    let told = c.in-Some.ensures in
+    let told = c.in_ok-stream.ensures in
     let lengths = shorter d in
     let inv = c.loop-rest.invariant in (
       inv.0,
       omega (arith, inv.1, lengths.1),
       small d,
       ap (λ (s : Bytes). option_map (adds rows c.args.parent (written c.loop-rest.place)) (streams_of s)) told.2
-          ∙ one_gone rows c.args.parent (written c.loop-rest.place) rest _ (some (goal.at.loop-rest-preserved c).After-split_stream) told.0 inv.3 (sym (looked d) ∙ c.in_default-out_of.is),
+          ∙ one_gone rows c.args.parent (written c.loop-rest.place) rest _ (some (goal.at.loop-rest-preserved c).After-split_stream) told.0 inv.3 (sym (looked d) ∙ c.in_default.is),
     )
 
 pub returns : goal.returns
