@@ -3,7 +3,6 @@ pub mod Crcs
 pub mod Deliveries
 pub mod Entries
 pub mod Lookups
-pub mod Masks
 pub mod Packets
 pub mod Pats
 pub mod Placing

@@ -25,10 +25,7 @@ good_from x g = and_from _ _ (eq-eqb _ _ g.long) (and_from _ _ (eq-eqb _ _ g.syn
 pub bad_from : (x : Bytes) → (Good x → ⊥) → good_packet x ≡ false
 bad_from x no-good = ⊎_elim (λ t. absurd (no-good (good_parts x t))) (λ f. f) (cases_Bool (good_packet x))
 
--- a packet has a head exactly if it is good
-pub head_good : (x : Bytes) → is_some (head_of x) ≡ true → good_packet x ≡ true
-head_good x h = ⊎_elim (λ t. t) (λ f. absurd (false≢true (sym (ap is_some (cond-false _ _ _ f)) ∙ h))) (cases_Bool (good_packet x))
-
+-- a packet without a head is not good
 pub head_bad : (x : Bytes) → is_some (head_of x) ≡ false → good_packet x ≡ false
 head_bad x h = ⊎_elim (λ t. absurd (true≢false (sym (ap is_some (cond-true _ _ _ t)) ∙ h))) (λ f. f) (cases_Bool (good_packet x))
 
@@ -48,10 +45,6 @@ headed x h e = ⊎_elim yes_good (λ f. absurd (true≢false (ap is_some (e ∙ 
         let some = e ∙ cond-true _ _ None t in
         let is : h ≡ record { start = start_of x; pid = pid_of x; scrambling = scrambling_of x; adaptation = adaptation_of x; counter = counter_of x } = cc some in
         record { good = t; start = ap (λ g. g.start) is; pid = ap (λ g. g.pid) is; scrambling = ap (λ g. g.scrambling) is; adaptation = ap (λ g. g.adaptation) is }
-
-pub stuffing_framed : Framed stuffing
-unfolding stuffing
-stuffing_framed = record { long = refl; sync = refl }
 
 pub with_pid_framed : (pid : ℕ) (x : Bytes) → Good x → Framed (with_pid pid x)
 unfolding with_pid

@@ -59,10 +59,6 @@ pat_framed counter tsid rows few =
     let m = length_sealed (pat_section tsid rows) in
     record { long = filled_long (0x47 ∷ 0x40 ∷ 0x00 ∷ (0x10 + counter) ∷ 0x00 ∷ sealed (pat_section tsid rows)) (omega arith); sync = refl }
 
-pub pat_copy_framed : (c : Setup) (f i : ℕ) → pmts c.rows ≤ 42 → Framed (pat_copy c f i)
-unfolding pat_copy
-pat_copy_framed c f i few = pat_framed ((f * c.copies + i) % 16) c.tsid c.rows few
-
 -- numbers that fit their fields
 abbrev Fitting : List Row → Type 0
 Fitting [] = Unit {0}

@@ -2,9 +2,10 @@
 ghost use Rattle.std.specs.Prelude.{◌≡◌, ◌%◌, ◌/◌, ◌<◌, [], ◌∷◌};
 ghost use Rattle.psi.specs.Fields.{number_in, flags_byte};
 
-// What the lowest flag counts in the first byte, above a PID and above a length.
+// What the lowest of the three flags above a PID counts in its byte.
 pub(crate) const ABOVE_PID: u8 = 0x20;
 
+// What the lowest of the four flags above a length counts in its byte.
 pub(crate) const ABOVE_LENGTH: u8 = 0x10;
 
 // The number below the flags in two bytes.

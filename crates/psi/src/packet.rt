@@ -51,6 +51,7 @@ impl Head {
 }
 
 impl Adaptation {
+    // Not `From<u8>`, since a control is two bits, and `Both` stands for each number above.
     fn of(control: u8) -> Adaptation
         ensures { result ≡ adaptation_in control }
     {

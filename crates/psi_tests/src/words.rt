@@ -1,6 +1,7 @@
 // Words of a line: numbers, bytes in hex, rows of a map.
 use config::row::{Kind, Row};
-use std::alloc::{AllocError, Global};
+use std::alloc::Global;
+use std::io::{self, ErrorKind};
 use std::str::FromStr;
 
 // The first word of a line, and what follows it.
@@ -8,24 +9,12 @@ pub(crate) fn cut(line: &str) -> (&str, &str) {
     line.split_once(' ').unwrap_or((line, ""))
 }
 
-// The bytes that a word writes in hex, two digits each; `-` has none.
-pub(crate) fn bytes_in(heap: Global, word: &str) -> Result<Vec<u8>, AllocError> {
-    let mut bytes = Vec::new(heap);
-    for pair in word.as_bytes().chunks_exact(2) {
-        if let [high, low] = pair {
-            bytes.push(digit(*high) << 4 | digit(*low))?;
-        }
+// The bytes that a word writes in hex; `-` has none.
+pub(crate) fn bytes_in(heap: Global, word: &str) -> io::Result<Vec<u8>> {
+    if word == "-" {
+        return Ok(Vec::new(heap));
     }
-    Ok(bytes)
-}
-
-// A digit of hex; 0 for any other byte.
-fn digit(c: u8) -> u8 {
-    match c {
-        b'0'..=b'9' => c - b'0',
-        b'a'..=b'f' => c - b'a' + 10,
-        _ => 0,
-    }
+    hex::decode(heap, word).map_err(|_| io::Error::from(ErrorKind::InvalidData))
 }
 
 // The number that a word writes; 0 for any other word.

@@ -15,6 +15,7 @@ pub(crate) fn put_streams(place: &mut Place, rows: &[Row], parent: u8, bytes: &[
     ensures written { StreamsWritten rows.now parent (written place.old) (streams_of bytes.now) (written place.new) result }
     ensures len { (place.old.len ≤ place.new.len) × (place.new.len ≤ place.old.len + length bytes.now) }
 {
+    // How far a stream reaches is written in it, so no iterator cuts the bytes beforehand.
     let mut rest = bytes;
     while !rest.is_empty() {
         let (stream, after) = split_stream(rest)?;
@@ -43,7 +44,10 @@ fn put_stream(place: &mut Place, stream: &[u8], pid: u16)
     ensures written { written place.new ≡ written place.old ++ with_pid pid stream.now }
     ensures len { place.new.len ≡ place.old.len + length stream.now }
 {
-    let [high, low] = with_number::<ABOVE_PID>(stream[1], pid);
-    place.put_all(&[stream[0], high, low]);
-    place.put_all(&stream[3..]);
+    let [kind, flags, _, rest @ ..] = stream else {
+        unreachable!()
+    };
+    let [high, low] = with_number::<ABOVE_PID>(*flags, pid);
+    place.put_all(&[*kind, high, low]);
+    place.put_all(rest);
 }

@@ -1,7 +1,7 @@
 use Rattle.std.proofs.Common.{◌≡◌, ◌/◌, ◌%◌, eqb, Some, None, sym, ap, ◌∙◌, arith}
+use lib.Bits.{and_mask}
 use Rattle.std.proofs.lemmas.Bool.{cond-true, cond-false, ltb-true, ltb-false, leb-true}
 use Rattle.psi.specs.Packet.{byte, scrambling_of, adaptation_in}
-use Rattle.psi.proofs.Masks.{low_two, low_four}
 use Rattle.psi.proofs.Packets.{Good, good_from, bad_from}
 use Rattle.psi.proofs.packet.Head.of.Goals as goal
 use Rattle.psi.proofs.packet.Head.of.Goals.{then-rest-via-then-rest, then-rest-via-else-rest+then-b1-ge128}
@@ -25,5 +25,5 @@ returns c =
     let good : Good c.args.packet.now = record { long = omega arith; sync = omega arith; clear = omega arith } in
     let x = c.args.packet.now in
     let start : byte x 1 / 0x40 ≡ byte x 1 / 0x40 % 2 = omega arith in
-    (λ i. Some (record { start = eqb (start i) 1; pid = c.number_in.ensures i; scrambling = scrambling_of x; adaptation = (c.of.ensures ∙ ap adaptation_in (low_two (byte x 3 / 0x10))) i; counter = low_four (byte x 3) i }))
+    (λ i. Some (record { start = eqb (start i) 1; pid = c.number_in.ensures i; scrambling = scrambling_of x; adaptation = (c.of.ensures ∙ ap adaptation_in (and_mask (byte x 3 / 0x10) 2)) i; counter = and_mask (byte x 3) 4 i }))
     ∙ sym (cond-true _ _ None (good_from x good))
