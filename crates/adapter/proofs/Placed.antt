@@ -49,9 +49,9 @@ held_up a k number (views.HeldUp.none x y e) = calls.Frames.none x y (ap refused
 held_up a k number (views.HeldUp.silent x f rest y z e) = calls.Frames.silent x f rest y z (ap refused_frame e) refl refl
 held_up a k number (views.HeldUp.unheard f rest x y z e) = calls.Frames.unheard f rest (hearings_in a) x y z (ap refused_frame e) refl refl
 
-pub skips_so : (a : Adapter) (k : Meaning) (number since : ℕ) (s' : State) → Skippable a number since → s' ≡ calls.skipping (view a) (hearings_in a)
+pub skips_so : (a : Adapter) (k : Meaning) (number since : ℕ) (s' : State) → (h : Skippable a since) → number ≡ h.frame.number → s' ≡ calls.skipping (view a) (hearings_in a)
     → Frames (setup_of a) (entries_of a) (view a) k (skipped number) s' k
-skips_so a k number since s' h e = calls.Frames.skips h.frame h.rest (hearings_in a) h.called h.early (ap skipped h.numbered) e refl
+skips_so a k number since s' h numbered e = calls.Frames.skips h.frame h.rest (hearings_in a) h.called h.early (ap skipped numbered) e refl
 
 pub in_step_is : (s : Step) → adds_in s ≡ true → step_of s ≡ in_step
 in_step_is Out e = never false e refl

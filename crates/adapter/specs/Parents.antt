@@ -1,11 +1,10 @@
 -- Parents as the rules have them, from what is kept of their times and what waits in their lines.
-use Rattle.std.specs.Prelude.{◌≡◌, ℕ, zero, suc, ◌<◌, ◌≤◌, max, Bool, true, false, List, [], ◌∷◌, length, Some, None, Option, ◌≢◌, slice_index_or}
+use Rattle.std.specs.Prelude.{◌≡◌, ℕ, zero, suc, ◌<◌, ◌≤◌, max, Bool, true, false, List, [], ◌∷◌, length, Some, None, Ok, Err, Option, Result, ◌≢◌, slice_index_or}
 use Rattle.rules.specs.Entries.{Entry}
 use Rattle.rules.specs.State.{Hearing, Parent}
-use Rattle.rules.specs.Times.{Stamp, stamped, Stamps, Untimely}
+use Rattle.rules.specs.Times.{Stamp, stamped, Stamps, Untimely as Unstamped}
 use Rattle.adapter.specs.declared.times.Times.{Times}
-use Rattle.adapter.specs.declared.times.stamp.Stamped.{Stamped}
-use Rattle.adapter.specs.declared.times.stamp.Stamped.TheVariants.{Unanchored, Untimely as No-time, Taken}
+use Rattle.adapter.specs.declared.times.stamp.Untimely.{Untimely}
 
 -- The times of a parent, as the stamp of the last packet taken from it.
 abbrev pub stamp_of : Times → Stamp
@@ -59,8 +58,13 @@ abbrev pub HeardSo : ℕ → List (Option Times) → ℕ → Bool → Type 0
 HeardSo e ts n true = (p : ℕ) (t : Times) → p < n → slice_index_or ts p None ≡ Some t → e ≤ t.heard_to
 HeardSo e ts n false = (p : ℕ) × (t : Times) × (p < n) × (slice_index_or ts p None ≡ Some t) × (t.heard_to < e)
 
--- What a packet handed with this time or none comes to, by the rules.
-abbrev pub StampedSo : ℕ → Parent → Option ℕ → Stamped → Type 0
-StampedSo rate P t Unanchored = (P ≡ None) × (t ≡ None)
-StampedSo rate P t No-time = Untimely P t
-StampedSo rate P t (Taken times) = Stamps rate P t (stamp_of times)
+-- What is known of a parent once its packet, handed with this time or none, is taken, by the rules; or that it cannot be.
+abbrev pub TakenSo : ℕ → Parent → Option ℕ → Result Times Untimely → Type 0
+TakenSo rate P t (Ok times) = Stamps rate P t (stamp_of times)
+TakenSo rate P t (Err untimely) = Unstamped P t
+
+-- The same of any packet: before its parent has an anchor, one without a time is neither taken nor refused.
+abbrev pub StampedSo : ℕ → Parent → Option ℕ → Result (Option Times) Untimely → Type 0
+StampedSo rate P t (Ok None) = (P ≡ None) × (t ≡ None)
+StampedSo rate P t (Ok (Some times)) = TakenSo rate P t (Ok times)
+StampedSo rate P t (Err untimely) = TakenSo rate P t (Err untimely)

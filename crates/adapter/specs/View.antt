@@ -1,5 +1,5 @@
 -- An adapter as the rules have it.
-use Rattle.std.specs.Prelude.{◌≡◌, ℕ, ◌<◌, ◌≤◌, List, [], ◌∷◌}
+use Rattle.std.specs.Prelude.{◌≡◌, ℕ, ◌<◌, ◌≤◌, List, [], ◌∷◌, Ok, Err, Result}
 use Rattle.config.specs.Setup.{Setup, setup}
 use Rattle.memory.specs.Memory.{entries_in, lines_in}
 use Rattle.rules.specs.Slots.{end_of}
@@ -10,7 +10,8 @@ use Rattle.adapter.specs.Answers.{number_of}
 use Rattle.adapter.specs.Fields.{state_from}
 use Rattle.adapter.specs.Parents.{hearings}
 use Rattle.adapter.specs.declared.due.Due.{Due}
-use Rattle.adapter.specs.declared.due.Due.TheVariants.{Refused, Skips, Places}
+use Rattle.adapter.specs.declared.answer.Refusal.{Refusal}
+use Rattle.adapter.specs.declared.due.Due.TheVariants.{Skips, Places}
 use Rattle.adapter.specs.declared.state.Adapter.{Adapter}
 
 -- its state
@@ -49,12 +50,11 @@ pub data HeldUp (a : Adapter) (number : ℕ) : Type 0 where
       → HeldUp a number
 
 -- The oldest record's frame starts before R.
-pub record Skippable (a : Adapter) (number since : ℕ) : Type 0 where
+pub record Skippable (a : Adapter) (since : ℕ) : Type 0 where
   pub frame : Frame
   pub rest : List Frame
   pub called : Called (setup_of a) (entries_of a) (view a) frame rest (hearings_in a)
   pub early : frame.start < latest (hearings_in a)
-  pub numbered : number ≡ frame.number
   pub is : since ≡ latest (hearings_in a)
 
 -- It can be placed.
@@ -62,7 +62,7 @@ pub record PlaceableNow (a : Adapter) (f : Frame) : Type 0 where
   pub rest : List Frame
   pub due : Placeable (setup_of a) (entries_of a) (view a) f rest (hearings_in a)
 
-abbrev pub DueSo : Adapter → Due → Type 0
-DueSo a (Refused refusal) = HeldUp a (number_of refusal)
-DueSo a (Skips number since) = Skippable a number since
-DueSo a (Places f) = PlaceableNow a f
+abbrev pub DueSo : Adapter → Result Due Refusal → Type 0
+DueSo a (Err refusal) = HeldUp a (number_of refusal)
+DueSo a (Ok (Skips number since)) = (early : Skippable a since) × (number ≡ early.frame.number)
+DueSo a (Ok (Places f)) = PlaceableNow a f

@@ -1,10 +1,8 @@
-// What comes of the oldest record's frame.
-use crate::answer::Refusal;
+// What comes of the oldest record's frame, where it need not wait.
 use rules::entry::Frame;
 
 pub(crate) enum Due {
-    Refused(Refusal),
     // It starts too early: its number, and R.
-    Skips(u32, u64),
+    Skips { number: u32, since: u64 },
     Places(Frame),
 }

@@ -61,10 +61,8 @@ impl Records {
     pub(crate) fn precede(&self, config: &Config, frame: &Frame) -> bool
         ensures { Decides result (Follows (setup config.now) self.now.last frame.now) }
     {
-        match self.last {
-            None => false,
-            Some(last) => follows(&last, config.ticks(), frame),
-        }
+        self.last
+            .is_some_and(|last| follows(&last, config.ticks(), frame))
     }
 
     // One more record waits, behind the others; or it is refused where eight wait, and nothing changes.

@@ -18,32 +18,31 @@ use rules::entry::Frame;
 
 impl Adapter {
     // Whether the oldest record's frame can be placed now, is skipped, or has to wait.
-    fn due(&self) -> Due
+    fn due(&self) -> Result<Due, Refusal>
         ensures { DueSo self.now result }
     {
         if !self.is_roomy() {
-            return Due::Refused(Refusal::TooFewEntries);
+            return Err(Refusal::TooFewEntries);
         }
-        let Some(frame) = self.records.oldest() else {
-            return Due::Refused(Refusal::NoRecord);
-        };
+        let frame = self.records.oldest().ok_or(Refusal::NoRecord)?;
         let parents = self.config.rates().len();
-        let Some(since) = latest(&self.heard[..], parents) else {
-            return Due::Refused(Refusal::Unheard);
-        };
+        let since = latest(&self.heard[..], parents).ok_or(Refusal::Unheard)?;
         if frame.start < since {
-            return Due::Skips(frame.number, since);
+            return Ok(Due::Skips {
+                number: frame.number,
+                since,
+            });
         }
         let end = frame.start + u64::from(self.config.ticks());
         if !heard_until(&self.heard[..], parents, end) {
-            return Due::Refused(Refusal::Unheard);
+            return Err(Refusal::Unheard);
         }
-        Due::Places(frame)
+        Ok(Due::Places(frame))
     }
 
     // Records and packets before R go, every from-time is R, and the adapter falls out of step.
-    fn skip(&mut self, number: u32, since: u64)
-        requires { Skippable self.old number since }
+    fn skip(&mut self, since: u64)
+        requires { Skippable self.old since }
         ensures after { view self.new ≡ skipping (view self.old) (hearings_in self.old) }
         ensures same { KeptSetup self.old self.new }
     {
@@ -92,10 +91,9 @@ impl Adapter {
         ensures clear { ClearAfter (setup_of self.old) (entries_of self.old) (view self.old) (C.meaning carrier.old) (frame_answer result) (C.meaning carrier.new) }
         ensures equal { EqualAfter (setup_of self.old) (entries_of self.old) (view self.old) (C.meaning carrier.old) (frame_answer result) (C.meaning carrier.new) }
     {
-        let frame = match self.due() {
-            Due::Refused(refusal) => return Err(refusal),
-            Due::Skips(number, since) => {
-                self.skip(number, since);
+        let frame = match self.due()? {
+            Due::Skips { number, since } => {
+                self.skip(since);
                 return Ok(Framed::Skipped(number));
             }
             Due::Places(frame) => frame,

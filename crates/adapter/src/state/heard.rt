@@ -11,11 +11,10 @@ ghost use Rattle.adapter.specs.View.{view, setup_of, entries_of, KeptSetup};
 use crate::answer::{Heard, Refusal};
 use crate::state::Adapter;
 use crate::times::Times;
-use crate::times::stamp::{Stamped, stamp};
+use crate::times::stamp::stamp;
 use memory::Memory;
 use psi::delivery::{Delivered, deliver};
 use rules::entry::Entry;
-use waiting::Full;
 
 // What becomes of a packet that was taken: it waits, if it arrives in time and the map delivers it.
 fn keep(
@@ -41,10 +40,10 @@ fn keep(
                 row,
                 bytes,
             };
-            match memory.hold(parent, entry) {
-                Ok(()) => Ok(Heard::Held),
-                Err(Full) => Err(Refusal::FullLine),
-            }
+            memory
+                .hold(parent, entry)
+                .map(|_| Heard::Held)
+                .map_err(|_| Refusal::FullLine)
         }
     }
 }
@@ -67,17 +66,15 @@ impl Adapter {
         };
         let rate = self.config.rates()[parent];
         let known = self.heard[parent];
-        match stamp(known, time, rate) {
-            Stamped::Unanchored => Ok(Heard::PassedOver),
-            Stamped::Untimely => {
-                self.forget(parent);
-                Err(Refusal::Untimely)
-            }
-            Stamped::Taken(times) => {
-                let heard = keep(&mut self.memory, parent, &times, delivered)?;
-                self.heard[parent] = Some(times);
-                Ok(heard)
-            }
-        }
+        let Ok(stamped) = stamp(known, time, rate) else {
+            self.forget(parent);
+            return Err(Refusal::Untimely);
+        };
+        let Some(times) = stamped else {
+            return Ok(Heard::PassedOver);
+        };
+        let heard = keep(&mut self.memory, parent, &times, delivered)?;
+        self.heard[parent] = Some(times);
+        Ok(heard)
     }
 }

@@ -8,7 +8,6 @@ use crate::records::in_range;
 use crate::state::Adapter;
 use crate::step::StepEvent;
 use rules::entry::Frame;
-use waiting::Full;
 
 impl Adapter {
     // The record of a frame to come: its number, when it starts and how many slots it has.
@@ -28,10 +27,11 @@ impl Adapter {
             return Err(Refusal::OutOfRange);
         }
         if self.records.precede(&self.config, &frame) {
-            return match self.records.queue(frame) {
-                Ok(()) => Ok(Recorded::Queued),
-                Err(Full) => Err(Refusal::RecordsFull),
-            };
+            return self
+                .records
+                .queue(frame)
+                .map(|_| Recorded::Queued)
+                .map_err(|_| Refusal::RecordsFull);
         }
         self.records.renew(frame);
         self.memory.empty_backlog();

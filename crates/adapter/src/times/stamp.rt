@@ -2,7 +2,7 @@
 ghost use Rattle.std.specs.Prelude.{◌≡◌, ℕ, ◌<◌, ◌≤◌, List, Some, None, nat_lt};
 ghost use Rattle.rules.specs.Entries.{Entry};
 ghost use Rattle.rules.specs.Times.{after};
-ghost use Rattle.adapter.specs.Parents.{stamp_of, parent_of, StampedSo};
+ghost use Rattle.adapter.specs.Parents.{stamp_of, parent_of, TakenSo, StampedSo};
 
 use crate::times::Times;
 
@@ -13,40 +13,35 @@ const MOST: u32 = 100_000;
 // 1,504 bits for each packet, 27,000,000 ticks to a second.
 const TICK_BITS: u64 = 40_608_000_000;
 
-pub(crate) enum Stamped {
-    // The parent has no anchor yet, and the packet no time.
-    Unanchored,
-    // No arrival time can be given to it.
-    Untimely,
-    // It is taken, and so this is known of its parent.
-    Taken(Times),
-}
+// No arrival time can be given to a packet.
+#[derive(Clone, Copy)]
+pub(crate) struct Untimely;
 
-// What the time handed with a packet, or none, makes of it.
-pub(crate) fn stamp(known: Option<Times>, time: Option<u64>, rate: u32) -> Stamped
+// What the time handed with a packet, or none, makes of it: what is known of its parent once it is taken, if the parent has an anchor then.
+pub(crate) fn stamp(
+    known: Option<Times>,
+    time: Option<u64>,
+    rate: u32,
+) -> Result<Option<Times>, Untimely>
     requires { 0 < rate }
     ensures { (line : List Entry) → StampedSo rate (parent_of known line) time result }
 {
-    match known {
-        None => match time {
-            None => Stamped::Unanchored,
-            Some(at) => first_anchor(at),
-        },
-        Some(times) => match time {
-            None => count_on(times, rate),
-            Some(at) => later_anchor(times, at),
-        },
+    match (known, time) {
+        (None, None) => Ok(None),
+        (None, Some(at)) => first_anchor(at).map(Some),
+        (Some(times), None) => count_on(times, rate).map(Some),
+        (Some(times), Some(at)) => later_anchor(times, at).map(Some),
     }
 }
 
 // The first anchor since power-up or the last loss.
-fn first_anchor(at: u64) -> Stamped
-    ensures { (rate : ℕ) → StampedSo rate None (Some at) result }
+fn first_anchor(at: u64) -> Result<Times, Untimely>
+    ensures { (rate : ℕ) → TakenSo rate None (Some at) result }
 {
     if at > LATEST {
-        return Stamped::Untimely;
+        return Err(Untimely);
     }
-    Stamped::Taken(Times {
+    Ok(Times {
         anchor: at,
         count: 0,
         from: at,
@@ -55,13 +50,13 @@ fn first_anchor(at: u64) -> Stamped
 }
 
 // A later one.
-fn later_anchor(times: Times, at: u64) -> Stamped
-    ensures { (rate : ℕ) (line : List Entry) → StampedSo rate (parent_of (Some times) line) (Some at) result }
+fn later_anchor(times: Times, at: u64) -> Result<Times, Untimely>
+    ensures { (rate : ℕ) (line : List Entry) → TakenSo rate (parent_of (Some times) line) (Some at) result }
 {
     if at > LATEST || at <= times.heard_to {
-        return Stamped::Untimely;
+        return Err(Untimely);
     }
-    Stamped::Taken(Times {
+    Ok(Times {
         anchor: at,
         count: 0,
         from: times.from,
@@ -70,15 +65,15 @@ fn later_anchor(times: Times, at: u64) -> Stamped
 }
 
 // The next packet after an anchor.
-fn count_on(times: Times, rate: u32) -> Stamped
+fn count_on(times: Times, rate: u32) -> Result<Times, Untimely>
     requires { 0 < rate }
-    ensures { (line : List Entry) → StampedSo rate (parent_of (Some times) line) None result }
+    ensures { (line : List Entry) → TakenSo rate (parent_of (Some times) line) None result }
 {
     if times.count >= MOST {
-        return Stamped::Untimely;
+        return Err(Untimely);
     }
     let count = times.count + 1;
-    Stamped::Taken(Times {
+    Ok(Times {
         anchor: times.anchor,
         count,
         from: times.from,

@@ -1,4 +1,8 @@
-use Rattle.std.proofs.Common.{◌≡◌, ℕ, ◌+◌, ◌<◌, true, List, ◌∷◌, length, Some, sym, refl, ap, ◌∙◌, subst, arith}
+use Rattle.std.proofs.Common.{◌≡◌, ℕ, ◌+◌, ◌<◌, true, List, ◌∷◌, length, None, Some, Err, Option, sym, refl, ap, ◌∙◌, subst, arith}
+use Rattle.std.proofs.lemmas.Result.{err_from_is_err_and}
+use Rattle.std.specs.Option.{ok_or}
+use Rattle.adapter.specs.Answers.{number_of}
+use Rattle.adapter.specs.declared.answer.Refusal.{Refusal}
 use Rattle.memory.specs.Memory.{lines_in}
 use Rattle.rules.specs.Slots.{Frame}
 use Rattle.rules.specs.Calls.{Called}
@@ -11,18 +15,27 @@ use Rattle.adapter.proofs.Standing.{line_count, places_suffice, silent_one, wait
 use Rattle.adapter.proofs.state.Adapter.due.Goals as goal
 use Rattle.adapter.proofs.state.Adapter.due.Goals.{After-latest}
 
-first : (c : After-latest) → (rest : List Frame) × ((view c.args.self.now).records ≡ c.in-Some.frame ∷ rest)
-first c = waits_first _ c.in-Some.frame (sym c.oldest.ensures ∙ c.in-Some.is)
+first : (c : After-latest) → (rest : List Frame) × ((view c.args.self.now).records ≡ c.in_ok-frame.frame ∷ rest)
+first c = waits_first _ c.in_ok-frame.frame (sym c.oldest.ensures ∙ c.in_ok-frame.ensures.ok_part)
 
 many : (c : After-latest) → length c.rates-parents.result.now ≡ length (lines_in c.args.self.now.memory)
 many c = ap length c.rates-parents.ensures ∙ sym (line_count c.args.self.now)
 
-pub returns-in_default-latest : goal.returns-in_default-latest
-returns-in_default-latest c =
-    let d = (goal.at.returns-in_default-latest c).After-latest in
-    let so = c.in_default-latest.ensures in
+found : (d : After-latest) {o : Option ℕ} → d.latest.result ≡ o → LatestSo d.args.self.now.heard (length d.rates-parents.result.now) o
+found d is = subst (LatestSo d.args.self.now.heard (length d.rates-parents.result.now)) is d.latest.ensures
+
+error_is : (o : Option ℕ) (e r : Refusal) → Err e ≡ ok_or o r → e ≡ r
+error_is None e r is = cc
+error_is (Some x) e r is = let z : ◌≡◌ {A = ℕ} 0 1 = cc in absurd (omega arith)
+
+pub returns-in_err-since : goal.returns-in_err-since
+returns-in_err-since c =
+    let d = (goal.at.returns-in_err-since c).After-latest in
+    let so = found d c.in_err-since.ensures.ok_part in
     let n = many d in
-    silent (c.is_roomy.ensures.0 c.if-not-is_roomy.false) c.in-Some.frame (first d).0 (first d).1 (silent_one c.args.self.now so.0 (omega (arith, so.1)) so.2) refl
+    let err = err_from_is_err_and c.from_residual-in_err-since.result c.from_residual-in_err-since.ensures.1 in
+    rw (err.1, err.2)
+    (silent (c.is_roomy.ensures.0 c.if-not-is_roomy.false) c.in_ok-frame.frame (first d).0 (first d).1 (silent_one c.args.self.now so.0 (omega (arith, so.1)) so.2) (ap number_of (error_is c.latest.result _ _ c.in_err-since.ensures.value)))
 
 -- every parent has an anchor
 anchored : (d : After-latest) (since : ℕ) → LatestSo d.args.self.now.heard (length d.rates-parents.result.now) (Some since)
@@ -33,7 +46,7 @@ anchored d since so =
     (known, so.1 ∙ ap (latest_below a.heard) (many d) ∙ latest_heard a.heard (lines_in a.memory) (places_suffice a) known)
 
 called : (d : After-latest) (since : ℕ) → LatestSo d.args.self.now.heard (length d.rates-parents.result.now) (Some since)
-    → Called (setup_of d.args.self.now) (entries_of d.args.self.now) (view d.args.self.now) d.in-Some.frame (first d).0 (hearings_in d.args.self.now)
+    → Called (setup_of d.args.self.now) (entries_of d.args.self.now) (view d.args.self.now) d.in_ok-frame.frame (first d).0 (hearings_in d.args.self.now)
 called d since so =
     let a = d.args.self.now in
     record {
@@ -45,50 +58,51 @@ called d since so =
 pub returns-then-frame-since : goal.returns-then-frame-since
 returns-then-frame-since c =
     let d = (goal.at.returns-then-frame-since c).After-latest in
-    let so = c.in-Some-latest.ensures in
-    let is = (anchored d c.in-Some-latest.since so).1 in
-    record {
-      frame = c.in-Some.frame;
-      rest = (first d).0;
-      called = called d c.in-Some-latest.since so;
-      early = omega (arith, is, ap (λ f. f.start) c.frame.view_is);
-      numbered = ap (λ f. f.number) c.frame.view_is;
-      is = is;
-    }
+    let so = found d c.in_ok-since.ensures.ok_part in
+    let is = (anchored d c.in_ok-since.since so).1 in (
+      record {
+        frame = c.in_ok-frame.frame;
+        rest = (first d).0;
+        called = called d c.in_ok-since.since so;
+        early = omega (arith, is, ap (λ f. f.start) c.frame.view_is);
+        is = is;
+      },
+      ap (λ f. f.number) c.frame.view_is,
+    )
 
 pub overflow_add-end : goal.overflow_add-end
 overflow_add-end c =
     let d = (goal.at.overflow_add-end c).After-latest in
-    omega (arith, ap (λ f. f.start) c.frame.view_is, start_low c.args.self.now c.in-Some.frame (first d).0 (first d).1, c.ticks.ensures, c.from.ensures, c.args.self.now.config.settings.0)
+    omega (arith, ap (λ f. f.start) c.frame.view_is, start_low c.args.self.now c.in_ok-frame.frame (first d).0 (first d).1, c.ticks.ensures, c.from.ensures, c.args.self.now.config.settings.0)
 
 pub returns-then-not-heard_until : goal.returns-then-not-heard_until
 returns-then-not-heard_until c =
     let a = c.args.self.now in
     let d = (goal.at.returns-then-not-heard_until c).After-latest in
-    let so = c.in-Some-latest.ensures in
-    let is = (anchored d c.in-Some-latest.since so).1 in
+    let so = found d c.in_ok-since.ensures.ok_part in
+    let is = (anchored d c.in_ok-since.since so).1 in
     let one = subst (HeardSo (c.frame.inside.start + c.from.result) a.heard (length c.rates-parents.result.now)) c.if-not-heard_until.true c.heard_until.ensures in
-    let end : c.frame.inside.start + c.from.result ≡ end_of (setup_of a) c.in-Some.frame = ap (λ s. s + c.from.result) (ap (λ f. f.start) c.frame.view_is) ∙ ap (λ t. c.in-Some.frame.start + t) (c.from.ensures ∙ c.ticks.ensures) in
-    unheard c.in-Some.frame (first d).0 (called d c.in-Some-latest.since so) (omega (arith, is, ap (λ f. f.start) c.frame.view_is))
-    (short_heard (end_of (setup_of a) c.in-Some.frame) a.heard (lines_in a.memory) one.0 one.1 (omega (arith, one.2, many d)) one.3 (subst (λ e. one.1.heard_to < e) end one.4))
+    let end : c.frame.inside.start + c.from.result ≡ end_of (setup_of a) c.in_ok-frame.frame = ap (λ s. s + c.from.result) (ap (λ f. f.start) c.frame.view_is) ∙ ap (λ t. c.in_ok-frame.frame.start + t) (c.from.ensures ∙ c.ticks.ensures) in
+    unheard c.in_ok-frame.frame (first d).0 (called d c.in_ok-since.since so) (omega (arith, is, ap (λ f. f.start) c.frame.view_is))
+    (short_heard (end_of (setup_of a) c.in_ok-frame.frame) a.heard (lines_in a.memory) one.0 one.1 (omega (arith, one.2, many d)) one.3 (subst (λ e. one.1.heard_to < e) end one.4))
     refl
 
 pub returns : goal.returns
 returns c =
     let a = c.args.self.now in
     let d = (goal.at.returns c).After-latest in
-    let so = c.in-Some-latest.ensures in
-    let is = (anchored d c.in-Some-latest.since so).1 in
+    let so = found d c.in_ok-since.ensures.ok_part in
+    let is = (anchored d c.in_ok-since.since so).1 in
     let all = subst (HeardSo (c.frame.inside.start + c.from.result) a.heard (length c.rates-parents.result.now)) c.if-not-heard_until.false c.heard_until.ensures in
-    let end : c.frame.inside.start + c.from.result ≡ end_of (setup_of a) c.in-Some.frame = ap (λ s. s + c.from.result) (ap (λ f. f.start) c.frame.view_is) ∙ ap (λ t. c.in-Some.frame.start + t) (c.from.ensures ∙ c.ticks.ensures) in
+    let end : c.frame.inside.start + c.from.result ≡ end_of (setup_of a) c.in_ok-frame.frame = ap (λ s. s + c.from.result) (ap (λ f. f.start) c.frame.view_is) ∙ ap (λ t. c.in_ok-frame.frame.start + t) (c.from.ensures ∙ c.ticks.ensures) in
     record {
       rest = (first d).0;
       due =
           record {
-            called = called d c.in-Some-latest.since so;
+            called = called d c.in_ok-since.since so;
             not_early = omega (arith, is, ap (λ f. f.start) c.frame.view_is);
             heard =
-                reach_heard (end_of (setup_of a) c.in-Some.frame) a.heard (lines_in a.memory)
-                (subst (λ n. HeardSo (end_of (setup_of a) c.in-Some.frame) a.heard n true) (many d) (subst (λ e. HeardSo e a.heard (length c.rates-parents.result.now) true) end all));
+                reach_heard (end_of (setup_of a) c.in_ok-frame.frame) a.heard (lines_in a.memory)
+                (subst (λ n. HeardSo (end_of (setup_of a) c.in_ok-frame.frame) a.heard n true) (many d) (subst (λ e. HeardSo e a.heard (length c.rates-parents.result.now) true) end all));
           };
     }

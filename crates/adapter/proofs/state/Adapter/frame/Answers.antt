@@ -1,28 +1,32 @@
-use Rattle.std.proofs.Common.{sym, refl, ap, ◌∙◌, subst, arith}
+use Rattle.std.proofs.Common.{Ok, sym, refl, ap, ◌∙◌, subst, arith}
+use Rattle.std.proofs.lemmas.Result.{err_from_is_err_and}
 use Rattle.rules.specs.Calls as calls
 use Rattle.rules.specs.Calls.{Frames, crowded}
 use Rattle.adapter.specs.Placing.{placed_answer}
-use Rattle.adapter.specs.View.{view, setup_of, entries_of, hearings_in}
+use Rattle.adapter.specs.View.{view, setup_of, entries_of, hearings_in, DueSo}
 use Rattle.adapter.proofs.Placed.{clear_holds, equal_holds, held_up, skips_so, in_step_is}
 use Rattle.adapter.proofs.state.Adapter.frame.Goals as goal
 
-pub returns-in-Refused : goal.returns-in-Refused
-returns-in-Refused g c =
+pub returns-in_err-number : goal.returns-in_err-number
+returns-in_err-number g c =
     let a = c.args.self.now in
-    let rule = held_up a (g.C.Carrier.meaning c.args.carrier.now) _ c.in-Refused.ensures in
+    let err = err_from_is_err_and c.from_residual.result c.from_residual.ensures.1 in
+    let rule = held_up a (g.C.Carrier.meaning c.args.carrier.now) _ c.in_err-number.ensures in
+    rw (err.1, err.2)
     record { rule = rule; same = record { config = refl; entries = refl }; untouched = refl; clear = clear_holds a _ _ _ _ rule; equal = equal_holds a _ _ _ _ rule }
 
 pub returns-in-Skips : goal.returns-in-Skips
 returns-in-Skips g c =
     let a = c.args.self.now in
-    let rule = skips_so a (g.C.Carrier.meaning c.args.carrier.now) c.in-Skips.number c.in-Skips.since (view c.skip.new.self) c.in-Skips.ensures c.skip.ensures.after in
+    let due = subst (λ d. DueSo a (Ok d)) c.in-Skips.is c.in_ok-number.ensures in
+    let rule = skips_so a (g.C.Carrier.meaning c.args.carrier.now) c.in-Skips.number c.in-Skips.since (view c.skip.new.self) due.0 due.1 c.skip.ensures.after in
     record { rule = rule; same = c.skip.ensures.same; untouched = refl; clear = clear_holds a _ _ _ _ rule; equal = equal_holds a _ _ _ _ rule }
 
 pub returns-then-free-frame : goal.returns-then-free-frame
 returns-then-free-frame g c =
     let a = c.args.self.now in
     let k = (g.C.Carrier.meaning c.args.carrier.now) in
-    let due = c.in-Places.ensures in
+    let due = subst (λ d. DueSo a (Ok d)) c.in-Places.is c.in_ok-number.ensures in
     let rule : Frames (setup_of a) (entries_of a) (view a) k (calls.refused_frame 14) (view a) k =
     crowded c.in-Places.frame due.rest (hearings_in a) due.due (in_step_is a.step (sym c.adds-adding.ensures ∙ c.if-adding.true)) (omega (arith, c.free.ensures, ap (λ f. f.slots) c.frame.view_is)) refl refl refl in
     record { rule = rule; same = record { config = refl; entries = refl }; untouched = refl; clear = clear_holds a _ _ _ _ rule; equal = equal_holds a _ _ _ _ rule }

@@ -1,4 +1,4 @@
-use Rattle.std.proofs.Common.{◌≡◌, ℕ, set, Some, Ok, Err, sym, refl, ap, ◌∙◌, subst, arith}
+use Rattle.std.proofs.Common.{◌≡◌, ℕ, set, Some, Ok, Err, Option, sym, refl, ap, ◌∙◌, subst, arith}
 use Rattle.std.proofs.lemmas.List.{length-set}
 use Rattle.std.proofs.lemmas.Result.{err_from_is_err_and}
 use Rattle.memory.specs.Memory.{line_in, room_in}
@@ -9,7 +9,9 @@ use Rattle.rules.specs.Times.{Untimely}
 use Rattle.adapter.specs.Answers.{hear_answer}
 use Rattle.adapter.specs.Fields.{state_from, Reached}
 use Rattle.adapter.specs.Keeping.{Keeps}
-use Rattle.adapter.specs.Parents.{stamp_of}
+use Rattle.rules.specs.State.{Parent}
+use Rattle.adapter.specs.Parents.{stamp_of, StampedSo}
+use Rattle.adapter.specs.declared.times.Times.{Times}
 use Rattle.adapter.specs.View.{view, setup_of, entries_of}
 use Rattle.adapter.specs.declared.answer.Heard.{Heard}
 use Rattle.adapter.proofs.Hearing.{delivered_good, full_stays, heard_taken, heard_full, has_place, parent_is, line_is, arrives_by, known_by, same_lines, same_state}
@@ -21,31 +23,34 @@ use Rattle.adapter.proofs.state.Adapter.hear.Goals.{After-stamp, After-keep}
 good : (c : After-stamp) → Good (setup_of c.args.self.now) (entries_of c.args.self.now) c.args.parent c.args.packet.now
 good c = record { known = c.in_ok-listed.ensures; good = (delivered_good _ _ _ c.in-Ok.ensures.value).0 }
 
-pub returns-in-Unanchored : goal.returns-in-Unanchored
-returns-in-Unanchored c =
+at_ok : (rate : ℕ) (P : Parent) (t : Option ℕ) {o o' : Option Times} → o ≡ o' → StampedSo rate P t (Ok o) → StampedSo rate P t (Ok o')
+at_ok rate P t is h = subst (λ o. StampedSo rate P t (Ok o)) is h
+
+pub returns-in_default-stamped : goal.returns-in_default-stamped
+returns-in_default-stamped c =
     let a = c.args.self.now in
-    let so = c.in-Unanchored.ensures (line_in a.memory c.args.parent) in
+    let so = at_ok _ _ _ c.in_default-stamped.is (c.in-Ok-stamp.ensures (line_in a.memory c.args.parent)) in
     record {
-      rule = unanchored (good (goal.at.returns-in-Unanchored c).After-stamp) (parent_is a c.args.parent c.in_ok-listed.ensures c.index-self-parent.result ∙ so.0) so.1 refl refl;
+      rule = unanchored (good (goal.at.returns-in_default-stamped c).After-stamp) (parent_is a c.args.parent c.in_ok-listed.ensures c.index-self-parent.result ∙ so.0) so.1 refl refl;
       same = record { config = refl; entries = refl };
     }
 
-pub returns-in-Untimely : goal.returns-in-Untimely
-returns-in-Untimely c =
+pub returns-in_default-stamp : goal.returns-in_default-stamp
+returns-in_default-stamp c =
     let a = c.args.self.now in
-    let so = c.in-Untimely.ensures (line_in a.memory c.args.parent) in
+    let so = c.in_default-stamp.ensures (line_in a.memory c.args.parent) in
     record {
       rule =
-          untimely (good (goal.at.returns-in-Untimely c).After-stamp)
+          untimely (good (goal.at.returns-in_default-stamp c).After-stamp)
           (subst (λ P. Untimely P c.args.time) (sym (parent_is a c.args.parent c.in_ok-listed.ensures c.index-self-parent.result)) so)
-          refl c.forget-in-Untimely.ensures.after;
-      same = c.forget-in-Untimely.ensures.same;
+          refl c.forget-in_default-stamp.ensures.after;
+      same = c.forget-in_default-stamp.ensures.same;
     }
 
-arrives : (c : After-keep) → Arrives (setup_of c.args.self.now) (entries_of c.args.self.now) (view c.args.self.now) c.args.parent c.args.packet.now c.args.time (stamp_of c.in-Taken.times)
+arrives : (c : After-keep) → Arrives (setup_of c.args.self.now) (entries_of c.args.self.now) (view c.args.self.now) c.args.parent c.args.packet.now c.args.time (stamp_of c.in-Some.times)
 arrives c =
-    arrives_by c.args.self.now c.args.parent c.in_ok-listed.ensures c.args.packet.now c.args.time c.index-self-parent.result c.rates.result.now c.in-Taken.times
-    (delivered_good _ _ _ c.in-Ok.ensures.value).0 c.rates.ensures c.in-Taken.ensures
+    arrives_by c.args.self.now c.args.parent c.in_ok-listed.ensures c.args.packet.now c.args.time c.index-self-parent.result c.rates.result.now c.in-Some.times
+    (delivered_good _ _ _ c.in-Ok.ensures.value).0 c.rates.ensures (λ line. at_ok _ _ _ c.in-Some.is (c.in-Ok-stamp.ensures line))
 
 maps : (c : After-keep) → meant c.in-Ok.delivered ≡ deliver (setup_of c.args.self.now) c.args.parent c.args.packet.now
 maps c = (delivered_good _ _ _ c.in-Ok.ensures.value).1
@@ -56,7 +61,7 @@ invariant_of-self c =
     let listed = c.in_ok-listed.ensures in
     let m = c.keep.new.memory in
     let rest = c.keep.ensures.rest in
-    let stays = full_stays _ c.in_err-heard-in-Taken.ensures.rule in
+    let stays = full_stays _ c.in_err-heard.ensures.rule in
     let shared = still_shared a.config _ _ rest.shares (a.parents, a.size, a.room) in
     let state = same_state a c.args.parent listed m c.keep.ensures.lines stays rest.backlog in record {
       places = a.places;
@@ -67,51 +72,51 @@ invariant_of-self c =
       reached = subst (λ n. Reached (setup_of a) n (state_from m a.heard a.records a.step)) (sym rest.shares.entries) (subst (Reached (setup_of a) (entries_of a)) (sym state) a.reached);
     }
 
-pub returns-in_err-heard-in-Taken : goal.returns-in_err-heard-in-Taken
-returns-in_err-heard-in-Taken c =
+pub returns-in_err-heard : goal.returns-in_err-heard
+returns-in_err-heard c =
     let a = c.args.self.now in
     let listed = c.in_ok-listed.ensures in
     let m = c.keep.new.memory in
-    let k = (goal.at.returns-in_err-heard-in-Taken c).After-keep in
+    let k = (goal.at.returns-in_err-heard c).After-keep in
     let rest = c.keep.ensures.rest in
-    let stays = full_stays _ c.in_err-heard-in-Taken.ensures.rule in
+    let stays = full_stays _ c.in_err-heard.ensures.rule in
     let state = same_state a c.args.parent listed m c.keep.ensures.lines stays rest.backlog in
-    let err = err_from_is_err_and c.from_residual-in_err-heard-in-Taken.result c.from_residual-in_err-heard-in-Taken.ensures.1 in
+    let err = err_from_is_err_and c.from_residual-in_err-heard.result c.from_residual-in_err-heard.ensures.1 in
     record {
       rule =
           subst (λ r. Hears (setup_of a) (entries_of a) (view a) c.args.parent c.args.packet.now c.args.time (hear_answer r) (state_from m a.heard a.records a.step)) (sym (err.1 ∙ ap Err err.2))
-          (heard_full _ _ _ _ _ _ _ _ _ _ _ (arrives k) (maps k) a.room (line_is a c.args.parent listed) _ _ c.in_err-heard-in-Taken.ensures.rule state);
+          (heard_full _ _ _ _ _ _ _ _ _ _ _ (arrives k) (maps k) a.room (line_is a c.args.parent listed) _ _ c.in_err-heard.ensures.rule state);
       same = record { config = refl; entries = rest.shares.entries };
     }
 
 -- the packet was taken
 rule : (c : After-keep) (h : Heard)
-    → Keeps (stamp_of c.in-Taken.times) (meant c.in-Ok.delivered) (room_in c.args.self.now.memory) (line_in c.args.self.now.memory c.args.parent) (hear_answer (Ok h)) (line_in c.keep.new.memory c.args.parent)
+    → Keeps (stamp_of c.in-Some.times) (meant c.in-Ok.delivered) (room_in c.args.self.now.memory) (line_in c.args.self.now.memory c.args.parent) (hear_answer (Ok h)) (line_in c.keep.new.memory c.args.parent)
     → Hears (setup_of c.args.self.now) (entries_of c.args.self.now) (view c.args.self.now) c.args.parent c.args.packet.now c.args.time (hear_answer (Ok h))
-    (state_from c.keep.new.memory (set c.args.self.now.heard c.args.parent (Some c.in-Taken.times)) c.args.self.now.records c.args.self.now.step)
+    (state_from c.keep.new.memory (set c.args.self.now.heard c.args.parent (Some c.in-Some.times)) c.args.self.now.records c.args.self.now.step)
 rule c h keeps =
     let a = c.args.self.now in
     let listed = c.in_ok-listed.ensures in
     heard_taken _ _ _ _ _ _ _ _ _ _ _ (arrives c) (maps c) a.room (line_is a c.args.parent listed) h _ keeps
-    (known_by a c.args.parent listed c.keep.new.memory c.in-Taken.times c.keep.ensures.lines c.keep.ensures.rest.backlog)
+    (known_by a c.args.parent listed c.keep.new.memory c.in-Some.times c.keep.ensures.lines c.keep.ensures.rest.backlog)
 
-pub invariant_of-self-in-Taken : goal.invariant_of-self-in-Taken
-invariant_of-self-in-Taken c =
+pub invariant_of-self-2 : goal.invariant_of-self-2
+invariant_of-self-2 c =
     let a = c.args.self.now in
-    let k = (goal.at.invariant_of-self-in-Taken c).After-keep in
+    let k = (goal.at.invariant_of-self-2 c).After-keep in
     let rest = c.keep.ensures.rest in
     let shared = still_shared a.config _ _ rest.shares (a.parents, a.size, a.room) in record {
-      places = length-set a.heard c.args.parent (Some c.in-Taken.times) ∙ a.places;
+      places = length-set a.heard c.args.parent (Some c.in-Some.times) ∙ a.places;
       parents = shared.0;
       size = shared.1;
       room = shared.2;
-      quiet = quiet_set a.heard a.memory _ c.args.parent (Some c.in-Taken.times) _ (has_place a c.args.parent c.in_ok-listed.ensures) c.keep.ensures.lines (λ e. let z : ◌≡◌ {A = ℕ} 0 1 = cc in absurd (omega arith)) a.quiet;
-      reached = reached_by (hear c.args.parent c.args.packet.now c.args.time (hear_answer (Ok c.in_ok-heard-in-Taken.heard))) rest.shares.entries (rule k c.in_ok-heard-in-Taken.heard c.in_ok-heard-in-Taken.ensures.rule) a.reached;
+      quiet = quiet_set a.heard a.memory _ c.args.parent (Some c.in-Some.times) _ (has_place a c.args.parent c.in_ok-listed.ensures) c.keep.ensures.lines (λ e. let z : ◌≡◌ {A = ℕ} 0 1 = cc in absurd (omega arith)) a.quiet;
+      reached = reached_by (hear c.args.parent c.args.packet.now c.args.time (hear_answer (Ok c.in_ok-heard.heard))) rest.shares.entries (rule k c.in_ok-heard.heard c.in_ok-heard.ensures.rule) a.reached;
     }
 
-pub returns-in_ok-heard-in-Taken : goal.returns-in_ok-heard-in-Taken
-returns-in_ok-heard-in-Taken c =
+pub returns : goal.returns
+returns c =
     record {
-      rule = rule (goal.at.returns-in_ok-heard-in-Taken c).After-keep c.in_ok-heard-in-Taken.heard c.in_ok-heard-in-Taken.ensures.rule;
+      rule = rule (goal.at.returns c).After-keep c.in_ok-heard.heard c.in_ok-heard.ensures.rule;
       same = record { config = refl; entries = c.keep.ensures.rest.shares.entries };
     }
