@@ -1,11 +1,14 @@
 -- Parents that all have an anchor.
-use Rattle.std.proofs.Common.{◌≡◌, ℕ, zero, suc, ◌<◌, ◌≤◌, max, true, List, [], ◌∷◌, map, length, get_or, Some, None, Option, sym, refl, ap, ◌∙◌, subst, inl, inr, arith}
+use Rattle.std.proofs.Common.{◌≡◌, ℕ, suc, ◌<◌, ◌≤◌, max, leb, true, false, ◌&&◌, List, [], ◌∷◌, map, length, get_or, take, Some, None, Option, sym, refl, ap, ◌∙◌, inl, inr, ⊎_elim, arith}
+use Rattle.std.specs.List.{list_all}
+use Rattle.std.proofs.lemmas.Bool.{cases_lt, leb-true, le-leb, and_parts}
+use Rattle.adapter.proofs.Keeping.{never}
 use Rattle.rules.specs.Entries.{Entry}
 use Rattle.rules.specs.Calls.{let_go, Reach, ShortOf}
 use Rattle.rules.specs.Entries.{from_on}
 use Rattle.rules.specs.State.{Hearing, latest}
 use Rattle.rules.specs.Times.{stamped}
-use Rattle.adapter.specs.Parents.{stamp_of, parent_of, parents_by, hearings, moved, from_at, latest_below, HeardSo}
+use Rattle.adapter.specs.Parents.{stamp_of, parent_of, parents_by, hearings, moved, latest_of, reaches}
 use Rattle.adapter.specs.declared.times.Times.{Times}
 
 abbrev pub Known : List (Option Times) → ℕ → Type 0
@@ -41,31 +44,30 @@ restarted_heard m (Some t ∷ ts) (t' ∷ ts') (l ∷ ls) fit same known h =
     let others = restarted_heard m ts ts' ls (omega arith) (omega arith) (λ p k e. known (suc p) (omega arith) e) (λ p l k. h (suc p) l (omega arith)) in
     cc
 
-latest_front : (t : Option Times) (ts : List (Option Times)) (n : ℕ) → latest_below (t ∷ ts) (suc n) ≡ max (from_at t) (latest_below ts n)
-latest_front t ts zero = omega arith
-latest_front t ts (suc n) = let h = latest_front t ts n in omega arith
-
 latest_cons : (h : Hearing) (hs : List Hearing) → latest (h ∷ hs) ≡ max h.from (latest hs)
 latest_cons h [] = omega arith
 latest_cons h (g ∷ hs) = refl
 
-pub latest_heard : (ts : List (Option Times)) (ls : List (List Entry)) → length ls ≤ length ts → Known ts (length ls) → latest_below ts (length ls) ≡ latest (hearings ts ls)
+pub latest_heard : (ts : List (Option Times)) (ls : List (List Entry)) → length ls ≤ length ts → Known ts (length ls) → latest_of (take (length ls) ts) ≡ latest (hearings ts ls)
 latest_heard ts [] fit known = refl
 latest_heard [] (l ∷ ls) fit known = absurd (omega arith)
 latest_heard (None ∷ ts) (l ∷ ls) fit known = absurd (known 0 (omega arith) refl)
 latest_heard (Some t ∷ ts) (l ∷ ls) fit known =
-    latest_front (Some t) ts (length ls) ∙ ap (max t.from) (latest_heard ts ls (omega arith) (λ p k e. known (suc p) (omega arith) e)) ∙ sym (latest_cons (stamped (stamp_of t) l) (hearings ts ls))
+    ap (max t.from) (latest_heard ts ls (omega arith) (λ p k e. known (suc p) (omega arith) e)) ∙ sym (latest_cons (stamped (stamp_of t) l) (hearings ts ls))
 
-pub reach_heard : (e : ℕ) (ts : List (Option Times)) (ls : List (List Entry)) → HeardSo e ts (length ls) true → Reach e (hearings ts ls)
+-- the parents that have a line were heard up to e, or one was not
+pub reach_heard : (e : ℕ) (ts : List (Option Times)) (ls : List (List Entry)) → list_all (reaches e) (take (length ls) ts) ≡ true → Reach e (hearings ts ls)
 reach_heard e ts [] h = tt
 reach_heard e [] (l ∷ ls) h = tt
-reach_heard e (None ∷ ts) (l ∷ ls) h = reach_heard e ts ls (λ p t k is. h (suc p) t (omega arith) is)
-reach_heard e (Some t ∷ ts) (l ∷ ls) h = (h 0 t (omega arith) refl, reach_heard e ts ls (λ p t k is. h (suc p) t (omega arith) is))
+reach_heard e (None ∷ ts) (l ∷ ls) h = reach_heard e ts ls h
+reach_heard e (Some t ∷ ts) (l ∷ ls) h = let both = and_parts (leb e t.heard_to) (list_all (reaches e) (take (length ls) ts)) h in (leb-true _ _ both.0, reach_heard e ts ls both.1)
 
-pub short_heard : (e : ℕ) (ts : List (Option Times)) (ls : List (List Entry)) (p : ℕ) (t : Times) → p < length ls → get_or ts p None ≡ Some t → t.heard_to < e → ShortOf e (hearings ts ls)
-short_heard e ts [] p t k is lt = absurd (omega arith)
-short_heard e [] (l ∷ ls) p t k is lt = let z : ◌≡◌ {A = ℕ} 0 1 = cc in absurd (omega arith)
-short_heard e (None ∷ ts) (l ∷ ls) zero t k is lt = let z : ◌≡◌ {A = ℕ} 0 1 = cc in absurd (omega arith)
-short_heard e (None ∷ ts) (l ∷ ls) (suc p) t k is lt = short_heard e ts ls p t (omega arith) is lt
-short_heard e (Some s ∷ ts) (l ∷ ls) zero t k is lt = inl (let same : s ≡ t = cc in subst (λ (y : Times). y.heard_to < e) (sym same) lt)
-short_heard e (Some s ∷ ts) (l ∷ ls) (suc p) t k is lt = inr (short_heard e ts ls p t (omega arith) is lt)
+pub short_heard : (e : ℕ) (ts : List (Option Times)) (ls : List (List Entry)) → list_all (reaches e) (take (length ls) ts) ≡ false → ShortOf e (hearings ts ls)
+short_heard e ts [] h = never true refl h
+short_heard e [] (l ∷ ls) h = never true refl h
+short_heard e (None ∷ ts) (l ∷ ls) h = short_heard e ts ls h
+short_heard e (Some t ∷ ts) (l ∷ ls) h =
+    ⊎_elim
+    (λ (early : t.heard_to < e). inl early)
+    (λ (late : e ≤ t.heard_to). inr (short_heard e ts ls (sym (ap (λ b. b && list_all (reaches e) (take (length ls) ts)) (le-leb _ _ late)) ∙ h)))
+    (cases_lt t.heard_to e)

@@ -1,7 +1,7 @@
 -- Letting go and restarting, for all parents one after the other.
-use Rattle.std.proofs.Common.{◌≡◌, ℕ, ◌+◌, ◌<◌, ◌≤◌, max, true, cond, ltb, ◌≢◌, List, [], ◌∷◌, ◌++◌, map, length, get_or, drop, set, Some, None, Option, sym, refl, ap, ◌∙◌, subst, ⊎_elim, add-one, arith}
+use Rattle.std.proofs.Common.{◌≡◌, ℕ, ◌+◌, ◌<◌, ◌≤◌, max, cond, ltb, ◌≢◌, List, [], ◌∷◌, ◌++◌, map, length, get_or, drop, set, Some, None, Option, sym, refl, ap, ◌∙◌, subst, ⊎_elim, arith}
 use lib.ListN.{get_or-map}
-use Rattle.std.proofs.lemmas.List.{get_or_default, get_or-set_same, get_or-set_other, length-set, ext_get_or, length-map}
+use Rattle.std.proofs.lemmas.List.{get_or-set_same, get_or-set_other, get_or_past, length-set, drop_more, drop_all, ext_get_or, length-map}
 use Rattle.std.proofs.lemmas.Bool.{cases_eq, cases_lt}
 use Rattle.std.specs.Option.{option_to_list}
 use Rattle.waiting.specs.Waiting as waiting
@@ -9,8 +9,7 @@ use Rattle.rules.specs.Entries.{Entry}
 use Rattle.rules.specs.Slots.{Frame}
 use Rattle.rules.specs.Calls.{records_from}
 use Rattle.rules.specs.Entries.{from_on}
-use Rattle.rules.specs.Times.{stamped}
-use Rattle.adapter.specs.Parents.{stamp_of, parent_of, moved, Restarted, from_at, latest_below, LatestSo, HeardSo}
+use Rattle.adapter.specs.Parents.{parent_of, moved, Restarted, from_at, latest_of, LatestSo}
 use Rattle.adapter.specs.declared.times.Times.{Times}
 
 pub entries_from : (m : ℕ) (l : List Entry) → waiting.from_on (λ (e : Entry). e.arrival) m l ≡ from_on m l
@@ -27,67 +26,67 @@ rest_is [] ys (Some x) e h = let z : ◌≡◌ {A = ℕ} 0 1 = cc in absurd (ome
 rest_is (x ∷ xs) ys None e h = let z : ◌≡◌ {A = ℕ} 0 1 = cc in absurd (omega arith)
 rest_is (x ∷ xs) ys (Some y) e h = cc
 
--- an element read at one default is the element
-pub known_at : (ts : List (Option Times)) (p : ℕ) (r : Option Times) → p < length ts → r ≡ get_or ts p r → get_or ts p None ≡ r
-known_at ts p r within is = get_or_default ts p None r within ∙ sym is
-
 below_one : (P : ℕ → Type 0) (n : ℕ) → ((q : ℕ) → q < n → P q) → P n → (q : ℕ) → q < n + 1 → P q
 below_one P n h here q k =
     ⊎_elim (λ (lt : q < n). h q lt) (λ (ge : n ≤ q). let same : n ≡ q = omega arith in subst P same here) (cases_lt q n)
 
-pub latest_more : (ts : List (Option Times)) (p latest latest' : ℕ) (t : Times) → LatestSo ts p (Some latest) → get_or ts p None ≡ Some t → latest' ≡ max t.from latest
-    → LatestSo ts (p + 1) (Some latest')
-latest_more ts p latest latest' t h here e = (
-  below_one (λ q. get_or ts q None ≡ None → ⊥) p h.0 (λ silent. let z : ◌≡◌ {A = ℕ} 0 1 = cc in omega arith),
-  subst (λ n. latest' ≡ latest_below ts n) (sym (add-one p))
-      (let from : from_at (get_or ts p None) ≡ t.from = ap from_at here in omega (arith, h.1)),
-)
+-- R so far: the parents before p have an anchor, and this is the latest of their from-times
+pub record Latest-below (ts : List (Option Times)) (p latest : ℕ) : Type 0 where
+  pub known : (q : ℕ) → q < p → get_or ts q None ≡ None → ⊥
+  pub rest : max latest (latest_of (drop p ts)) ≡ latest_of ts
 
-pub heard_more : (e : ℕ) (ts : List (Option Times)) (p : ℕ) → HeardSo e ts p true → ((t : Times) → get_or ts p None ≡ Some t → e ≤ t.heard_to) → HeardSo e ts (p + 1) true
-heard_more e ts p h here = λ q t k is. below_one (λ q. (t : Times) → get_or ts q None ≡ Some t → e ≤ t.heard_to) p (λ q k t is. h q t k is) here q k t is
+pub latest_none : (ts : List (Option Times)) → Latest-below ts 0 0
+latest_none ts = record { known = λ q k silent. absurd (omega arith); rest = omega arith }
 
-same_times : {o : Option Times} {s t : Times} → o ≡ Some s → o ≡ Some t → s.heard_to ≡ t.heard_to
-same_times {s = s} {t = t} p q = let e : s ≡ t = cc in ap (λ (y : Times). y.heard_to) e
-
-pub heard_here : (e : ℕ) (ts : List (Option Times)) (p : ℕ) (s : Times) → get_or ts p None ≡ Some s → e ≤ s.heard_to → (t : Times) → get_or ts p None ≡ Some t → e ≤ t.heard_to
-heard_here e ts p s is low t there = omega (arith, same_times is there)
-
-pub heard_none : (e : ℕ) (ts : List (Option Times)) (p : ℕ) → get_or ts p None ≡ None → (t : Times) → get_or ts p None ≡ Some t → e ≤ t.heard_to
-heard_none e ts p is t there = let z : ◌≡◌ {A = ℕ} 0 1 = cc in absurd (omega arith)
-
-pub restart_none : (m : ℕ) (ts : List (Option Times)) → Restarted m 0 ts ts
-restart_none m ts = record { many = refl; lower = λ p l k. absurd (omega arith); others = λ p l k. refl }
-
-pub restart_some : (m p : ℕ) (ts₀ ts : List (Option Times)) (t t' : Times) → p < length ts → Restarted m p ts₀ ts → get_or ts p None ≡ Some t
-    → stamp_of t' ≡ record { arrival = t.heard_to; anchor = t.anchor; count = t.count; from = m }
-    → Restarted m (p + 1) ts₀ (set ts p (Some t'))
-restart_some m p ts₀ ts t t' within h is made =
+pub latest_more : (ts : List (Option Times)) (p latest latest' : ℕ) (t : Times) → Latest-below ts p latest → p < length ts → get_or ts p None ≡ Some t → latest' ≡ max t.from latest
+    → Latest-below ts (p + 1) latest'
+latest_more ts p latest latest' t h within here e =
     record {
-      many = length-set ts p (Some t') ∙ h.many;
+      known = below_one (λ q. get_or ts q None ≡ None → ⊥) p h.known (λ silent. let z : ◌≡◌ {A = ℕ} 0 1 = cc in omega arith);
+      rest =
+          let next : latest_of (drop p ts) ≡ max t.from (latest_of (drop (p + 1) ts)) = ap latest_of (drop_more ts p None within) ∙ ap (λ o. max (from_at o) (latest_of (drop (p + 1) ts))) here in
+          omega (arith, h.rest);
+    }
+
+pub latest_all : (ts : List (Option Times)) (p latest : ℕ) → length ts ≤ p → Latest-below ts p latest → LatestSo ts (Some latest)
+latest_all ts p latest all h = (λ q k. h.known q (omega arith), (let none : latest_of (drop p ts) ≡ 0 = ap latest_of (drop_all p ts all) in omega (arith, h.rest)))
+
+-- the from-times of the parents before n are another
+pub record Restarted-below (m n : ℕ) (before after : List (Option Times)) : Type 0 where
+  pub many : length after ≡ length before
+  pub lower : (p : ℕ) (line : List Entry) → p < n → parent_of (get_or after p None) line ≡ moved m (parent_of (get_or before p None) line)
+  pub others : (p : ℕ) → n ≤ p → get_or after p None ≡ get_or before p None
+
+pub restart_none : (m : ℕ) (ts : List (Option Times)) → Restarted-below m 0 ts ts
+restart_none m ts = record { many = refl; lower = λ p l k. absurd (omega arith); others = λ p k. refl }
+
+pub restart_one : (m p : ℕ) (ts₀ ts : List (Option Times)) (t : Option Times) → p < length ts → Restarted-below m p ts₀ ts
+    → ((line : List Entry) → parent_of t line ≡ moved m (parent_of (get_or ts p None) line))
+    → Restarted-below m (p + 1) ts₀ (set ts p t)
+restart_one m p ts₀ ts t within h made =
+    record {
+      many = length-set ts p t ∙ h.many;
       lower = λ q l k.
           ⊎_elim
           (λ (same : q ≡ p).
-          subst (λ i. parent_of (get_or (set ts p (Some t')) i None) l ≡ moved m (parent_of (get_or ts₀ i None) l)) (sym same)
-          (ap (λ o. parent_of o l) (get_or-set_same ts p (Some t') None within) ∙ ap (λ σ. Some (stamped σ l)) made
-          ∙ ap (moved m) (sym (ap (λ o. parent_of o l) is) ∙ h.others p l (omega arith))))
-          (λ (other : q ≢ p). ap (λ o. parent_of o l) (get_or-set_other ts p q (Some t') None other) ∙ h.lower q l (omega arith))
+          subst (λ i. parent_of (get_or (set ts p t) i None) l ≡ moved m (parent_of (get_or ts₀ i None) l)) (sym same)
+          (ap (λ o. parent_of o l) (get_or-set_same ts p t None within) ∙ made l ∙ ap (λ o. moved m (parent_of o l)) (h.others p (omega arith))))
+          (λ (other : q ≢ p). ap (λ o. parent_of o l) (get_or-set_other ts p q t None other) ∙ h.lower q l (omega arith))
           (cases_eq q p);
-      others = λ q l k. ap (λ o. parent_of o l) (get_or-set_other ts p q (Some t') None (λ same. omega arith)) ∙ h.others q l (omega arith);
+      others = λ q k. get_or-set_other ts p q t None (λ same. omega arith) ∙ h.others q (omega arith);
     }
 
-pub restart_silent : (m p : ℕ) (ts₀ ts : List (Option Times)) → Restarted m p ts₀ ts → get_or ts p None ≡ None → Restarted m (p + 1) ts₀ ts
-restart_silent m p ts₀ ts h is =
+pub restart_all : (m n : ℕ) (ts₀ ts : List (Option Times)) → length ts₀ ≤ n → Restarted-below m n ts₀ ts → Restarted m ts₀ ts
+restart_all m n ts₀ ts all h =
     record {
       many = h.many;
-      lower = λ q l k.
+      each = λ q l.
           ⊎_elim
-          (λ (lt : q < p). h.lower q l lt)
-          (λ (ge : p ≤ q).
-          let same : q ≡ p = omega arith in
-          subst (λ i. parent_of (get_or ts i None) l ≡ moved m (parent_of (get_or ts₀ i None) l)) (sym same)
-          (ap (λ o. parent_of o l) is ∙ ap (moved m) (sym (ap (λ o. parent_of o l) is) ∙ h.others p l (omega arith))))
-          (cases_lt q p);
-      others = λ q l k. h.others q l (omega arith);
+          (λ (lt : q < n). h.lower q l lt)
+          (λ (ge : n ≤ q).
+          let past = get_or_past ts₀ q None (omega arith) in
+          ap (λ o. parent_of o l) (h.others q ge ∙ past) ∙ sym (ap (λ o. moved m (parent_of o l)) past))
+          (cases_lt q n);
     }
 
 -- the lines of the first n parents are cut

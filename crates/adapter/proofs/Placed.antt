@@ -114,13 +114,13 @@ module _ (a : Adapter) (f : Frame) (rest : List Frame) (due : Due (setup_of a) (
       cut ∙ ap (map (from_on (end_of (setup_of a) f))) lines_begun ∙ lines_placed (setup_of a) f (view a).step (hearings_in a)
       ∙ cut_lines (end_of (setup_of a) f) (hearings_in a) (lines_in a.memory) heard_lines
 
-  pub parents_left : (heard : List (Option Times)) (e : ℕ) → e ≡ end_of (setup_of a) f → Restarted e (length (lines_in a.memory)) a.heard heard
+  pub parents_left : (heard : List (Option Times)) (e : ℕ) → e ≡ end_of (setup_of a) f → Restarted e a.heard heard
       → lines_in m₂ ≡ map (from_on (end_of (setup_of a) f)) (lines_in m₁)
       → parents_by heard (lines_in m₂) ≡ map (λ h. Some (let_go (end_of (setup_of a) f) h)) (hearings_in a)
   parents_left heard e at restarts cut =
       ap (parents_by heard) (lines_left cut)
-      ∙ (let same : Restarted (end_of (setup_of a) f) (length (lines_in a.memory)) a.heard heard = subst (λ m. Restarted m (length (lines_in a.memory)) a.heard heard) at restarts in
-      restarted_heard (end_of (setup_of a) f) a.heard heard (lines_in a.memory) (places_suffice a) same.many (known_all a (hearings_in a) due.called.anchored) same.lower)
+      ∙ (let same : Restarted (end_of (setup_of a) f) a.heard heard = subst (λ m. Restarted m a.heard heard) at restarts in
+      restarted_heard (end_of (setup_of a) f) a.heard heard (lines_in a.memory) (places_suffice a) same.many (known_all a (hearings_in a) due.called.anchored) (λ p l k. same.each p l))
 
   pub count_left : lines_in m₂ ≡ map (from_on (end_of (setup_of a) f)) (lines_in m₁) → length (lines_in m₂) ≡ length (lines_in a.memory)
   count_left cut = ap length (lines_left cut) ∙ length-map (lines_in a.memory) (from_on (end_of (setup_of a) f))

@@ -72,11 +72,11 @@ moved_none m None e = refl
 moved_none m (Some t) e = let z : ◌≡◌ {A = ℕ} 0 1 = cc in absurd (omega arith)
 
 -- all parents still have an anchor
-pub quiet_restarted : (m n : ℕ) (ts ts' : List (Option Times)) (memory : Memory Entry) → Restarted m n ts ts' → Known ts n → length (lines_in memory) ≤ n → Quiet ts' memory
+pub quiet_restarted : (m n : ℕ) (ts ts' : List (Option Times)) (memory : Memory Entry) → Restarted m ts ts' → Known ts n → length (lines_in memory) ≤ n → Quiet ts' memory
 unfolding line_in
 quiet_restarted m n ts ts' memory h known few =
     λ p silent.
     ⊎_elim
-    (λ (low : p < n). absurd (known p low (moved_none m (get_or ts p None) (sym (ap (λ t. parent_of t []) silent) ∙ h.lower p [] low))))
+    (λ (low : p < n). absurd (known p low (moved_none m (get_or ts p None) (sym (ap (λ t. parent_of t []) silent) ∙ h.each p []))))
     (λ (high : n ≤ p). ap length (get_or_past (lines_in memory) p [] (omega arith)))
     (cases_lt p n)

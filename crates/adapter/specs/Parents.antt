@@ -1,5 +1,5 @@
 -- Parents as the rules have them, from what is kept of their times and what waits in their lines.
-use Rattle.std.specs.Prelude.{◌≡◌, ℕ, zero, suc, ◌<◌, ◌≤◌, max, Bool, true, false, List, [], ◌∷◌, length, Some, None, Ok, Err, Option, Result, ◌≢◌, slice_index_or}
+use Rattle.std.specs.Prelude.{◌≡◌, ℕ, ◌<◌, max, nat_le, Bool, true, List, [], ◌∷◌, length, Some, None, Ok, Err, Option, Result, ◌≢◌, slice_index_or}
 use Rattle.rules.specs.Entries.{Entry}
 use Rattle.rules.specs.State.{Hearing, Parent}
 use Rattle.rules.specs.Times.{Stamp, stamped, Stamps, Untimely as Unstamped}
@@ -33,30 +33,29 @@ abbrev pub moved : ℕ → Parent → Parent
 moved m None = None
 moved m (Some h) = Some (record { anchor = h.anchor; count = h.count; from = m; heard_to = h.heard_to; line = h.line })
 
--- The first n parents have another from-time.
-pub record Restarted (m n : ℕ) (before after : List (Option Times)) : Type 0 where
+-- Each of these parents has another from-time.
+pub record Restarted (m : ℕ) (before after : List (Option Times)) : Type 0 where
   pub many : length after ≡ length before
-  pub lower : (p : ℕ) (line : List Entry) → p < n → parent_of (slice_index_or after p None) line ≡ moved m (parent_of (slice_index_or before p None) line)
-  pub others : (p : ℕ) (line : List Entry) → n ≤ p → parent_of (slice_index_or after p None) line ≡ parent_of (slice_index_or before p None) line
+  pub each : (p : ℕ) (line : List Entry) → parent_of (slice_index_or after p None) line ≡ moved m (parent_of (slice_index_or before p None) line)
 
--- R of the first n parents: the latest of their from-times.
+-- R: the latest of their from-times.
 abbrev pub from_at : Option Times → ℕ
 from_at None = 0
 from_at (Some t) = t.from
 
-abbrev pub latest_below : List (Option Times) → ℕ → ℕ
-latest_below ts zero = 0
-latest_below ts (suc n) = max (latest_below ts n) (from_at (slice_index_or ts n None))
+abbrev pub latest_of : List (Option Times) → ℕ
+latest_of [] = 0
+latest_of (t ∷ ts) = max (from_at t) (latest_of ts)
 
--- One of the first n parents has no anchor, or all have one and R is this.
-abbrev pub LatestSo : List (Option Times) → ℕ → Option ℕ → Type 0
-LatestSo ts n None = (p : ℕ) × (p < n) × (slice_index_or ts p None ≡ None)
-LatestSo ts n (Some latest) = ((p : ℕ) → p < n → slice_index_or ts p None ≢ None) × (latest ≡ latest_below ts n)
+-- One of these parents has no anchor, or all have one and R is this.
+abbrev pub LatestSo : List (Option Times) → Option ℕ → Type 0
+LatestSo ts None = (p : ℕ) × (p < length ts) × (slice_index_or ts p None ≡ None)
+LatestSo ts (Some latest) = ((p : ℕ) → p < length ts → slice_index_or ts p None ≢ None) × (latest ≡ latest_of ts)
 
--- All of the first n parents that have an anchor were heard up to e, or one was not.
-abbrev pub HeardSo : ℕ → List (Option Times) → ℕ → Bool → Type 0
-HeardSo e ts n true = (p : ℕ) (t : Times) → p < n → slice_index_or ts p None ≡ Some t → e ≤ t.heard_to
-HeardSo e ts n false = (p : ℕ) × (t : Times) × (p < n) × (slice_index_or ts p None ≡ Some t) × (t.heard_to < e)
+-- Whether a parent, if it has an anchor, was heard up to e.
+abbrev pub reaches : ℕ → Option Times → Bool
+reaches e None = true
+reaches e (Some t) = nat_le e t.heard_to
 
 -- What is known of a parent once its packet, handed with this time or none, is taken, by the rules; or that it cannot be.
 abbrev pub TakenSo : ℕ → Parent → Option ℕ → Result Times Untimely → Type 0

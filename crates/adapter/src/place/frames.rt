@@ -1,7 +1,7 @@
 // A whole frame, slot by slot.
-ghost use Rattle.std.specs.Prelude.{◌≡◌, ◌^◌, ◌<◌, ◌≤◌, true, map, length, vec_len};
+ghost use Rattle.std.specs.Prelude.{◌≡◌, ◌^◌, ◌<◌, ◌≤◌, true, map, length};
 ghost use Rattle.config.specs.Setup.{setup};
-ghost use Rattle.memory.specs.Memory.{lines_in, backlog_in, parents_in, size_in, OnlyLines};
+ghost use Rattle.memory.specs.Memory.{lines_in, backlog_in, size_in, OnlyLines};
 ghost use Rattle.rules.specs.Calls.{doubt_at};
 ghost use Rattle.rules.specs.Entries.{merged};
 ghost use Rattle.rules.specs.Slots.{limit, played};
@@ -19,9 +19,9 @@ use rules::entry::{Entry, Frame};
 
 // A slot admits what arrives before this.
 fn limit_of(config: &Config, frame: &Frame, slot: u32) -> u64
-    requires slot_lt_slots { slot < frame.now.slots }
-    requires slots_bound { frame.now.slots ≤ 4096 }
-    requires start_bound { frame.now.start ≤ 2 ^ 60 }
+    requires slot_of_frame { slot < frame.now.slots }
+    requires few_slots { frame.now.slots ≤ 4096 }
+    requires start_in_range { frame.now.start ≤ 2 ^ 60 }
     ensures { result ≡ limit (setup config.now) frame.now slot }
 {
     frame.start + (u64::from(slot) + 1) * u64::from(config.ticks()) / u64::from(frame.slots)
@@ -29,14 +29,13 @@ fn limit_of(config: &Config, frame: &Frame, slot: u32) -> u64
 
 // How placing begins: out of step, packets before the frame's start are let go and the doubt is the backlog's size. Answers the doubt.
 pub(crate) fn begin(config: &Config, memory: &mut Memory<Entry>, frame: &Frame, step: Step) -> u32
-    requires { parents_in memory.old ≡ vec_len config.now.rates }
     ensures lines { lines_in memory.new ≡ map (begun frame.now (step_of step)) (lines_in memory.old) }
     ensures rest { OnlyLines memory.old memory.new }
     ensures doubt { result ≡ doubt_at (setup config.now) (step_of step) }
 {
     match step {
         Step::Out => {
-            let_go(memory, config.rates().len(), frame.start);
+            let_go(memory, frame.start);
             config.backlog()
         }
         Step::Following { doubt } => doubt,
@@ -53,14 +52,13 @@ pub(crate) fn place<C: Carrier>(
     adding: bool,
     carrier: &mut C,
 ) -> Course
-    requires memory_value { parents_in memory.old ≡ vec_len config.now.rates }
-    requires memory_value_2 { size_in memory.old ≡ config.now.backlog }
+    requires shared { size_in memory.old ≡ (setup config.now).backlog }
     requires lines_in_order { LinesInOrder (lines_in memory.old) }
-    requires memory_len_bound { length (merged (lines_in memory.old)) < 2 ^ 32 }
+    requires few_wait { length (merged (lines_in memory.old)) < 2 ^ 32 }
     requires all_whole { AllWhole (merged (lines_in memory.old)) × AllWhole (backlog_in memory.old) }
-    requires slots_nonzero { (0 < frame.now.slots) × (frame.now.slots ≤ 4096) × (frame.now.start ≤ 2 ^ 60) }
-    requires doubt_le_backlog { doubt ≤ config.now.backlog }
-    requires slots_bound { adding ≡ true → frame.now.slots ≤ (C.meaning carrier.old).free }
+    requires frame_in_range { (0 < frame.now.slots) × (frame.now.slots ≤ 4096) × (frame.now.start ≤ 2 ^ 60) }
+    requires doubt_within { doubt ≤ (setup config.now).backlog }
+    requires places_free { adding ≡ true → frame.now.slots ≤ (C.meaning carrier.old).free }
     ensures placed { PlacedSo (setup config.now) frame.now doubt memory.old memory.new result }
     ensures carried { Goes C.meaning adding (played (setup config.now) frame.now.number (turns_of_lines (setup config.now) frame.now (lines_in memory.old)) (backlog_in memory.old)) carrier.old carrier.new }
 {
@@ -71,13 +69,7 @@ pub(crate) fn place<C: Carrier>(
     };
     for slot in 0..frame.slots {
         let limit = limit_of(config, frame, slot);
-        let admitted = admit_before(
-            memory,
-            config.rates().len(),
-            config.backlog(),
-            limit,
-            course,
-        );
+        let admitted = admit_before(config, memory, limit, course);
         course = fill(config, memory, frame, slot, admitted, adding, carrier);
     }
     course

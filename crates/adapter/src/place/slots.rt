@@ -1,7 +1,7 @@
 // What each slot of a frame admits, and what it takes.
 ghost use Rattle.std.specs.Prelude.{◌≡◌, ◌+◌, ◌^◌, ◌<◌, ◌≤◌, true, List, [], ◌∷◌, length};
 ghost use Rattle.config.specs.Setup.{setup};
-ghost use Rattle.memory.specs.Memory.{lines_in, line_in, backlog_in, parents_in, size_in, SameShares, OnlyBacklog};
+ghost use Rattle.memory.specs.Memory.{lines_in, line_in, backlog_in, size_in, SameShares, OnlyBacklog};
 ghost use Rattle.rules.specs.Entries.{merged};
 ghost use Rattle.rules.specs.Slots.{use_of, leaves, choose, or_stuffing};
 ghost use Rattle.adapter.specs.Placing.{NextIn, LinesInOrder, AdmittedOne, Admitted, copy_of, Filled, Whole, AllWhole, Goes};
@@ -16,13 +16,12 @@ use rules::entry::{Entry, Frame};
 use waiting::Full;
 
 // The line whose first entry comes next, if one arrives before the limit: the earliest, and at equal times that of the lower parent.
-fn next_line(memory: &Memory<Entry>, parents: usize, limit: u64) -> Option<usize>
-    requires { parents ≡ parents_in memory.now }
+fn next_line(memory: &Memory<Entry>, limit: u64) -> Option<usize>
     ensures { NextIn limit (lines_in memory.now) result }
 {
     let mut bound = limit;
     let mut next = None;
-    for p in 0..parents {
+    for p in 0..memory.parents() {
         if let Some(entry) = memory.first(p) {
             if entry.arrival < bound {
                 bound = entry.arrival;
@@ -33,19 +32,18 @@ fn next_line(memory: &Memory<Entry>, parents: usize, limit: u64) -> Option<usize
     next
 }
 
-// The first entry of a line joins the backlog, or is dropped if the backlog is full.
-fn admit_one(memory: &mut Memory<Entry>, p: usize, size: u32, course: Course) -> Course
-    requires size_value { size ≡ size_in memory.old }
-    requires drops_bound { course.drops + 1 < 2 ^ 32 }
-    requires doubt_bound { course.doubt ≤ size_in memory.old }
-    requires size_bound { size ≤ 1024 }
+// The first entry of a line joins the backlog, or is dropped if the backlog is full; the doubt rises, as far as the backlog's size.
+fn admit_one(config: &Config, memory: &mut Memory<Entry>, p: usize, course: Course) -> Course
+    requires shared { size_in memory.old ≡ (setup config.now).backlog }
+    requires drops_fit { course.drops + 1 < 2 ^ 32 }
+    requires doubt_within { course.doubt ≤ size_in memory.old }
     ensures one { (e : Entry) (rest : List Entry) → line_in memory.old p ≡ e ∷ rest → AdmittedOne p e rest memory.old memory.new course result }
     ensures shares { SameShares memory.old memory.new }
 {
     let Some(entry) = memory.take(p) else {
         return course;
     };
-    let doubt = (course.doubt + 1).min(size);
+    let doubt = (course.doubt + 1).min(config.backlog());
     let drops = match memory.admit(entry) {
         Ok(()) => course.drops,
         Err(Full) => course.drops + 1,
@@ -59,23 +57,20 @@ fn admit_one(memory: &mut Memory<Entry>, p: usize, size: u32, course: Course) ->
 
 // Every entry that arrives before the limit is admitted, in order of arrival.
 pub(crate) fn admit_before(
+    config: &Config,
     memory: &mut Memory<Entry>,
-    parents: usize,
-    size: u32,
     limit: u64,
     course: Course,
 ) -> Course
-    requires parents_value { parents ≡ parents_in memory.old }
-    requires size_value { size ≡ size_in memory.old }
+    requires shared { size_in memory.old ≡ (setup config.now).backlog }
     requires lines_in_order { LinesInOrder (lines_in memory.old) }
-    requires memory_bound { course.drops + length (merged (lines_in memory.old)) < 2 ^ 32 }
-    requires doubt_bound { course.doubt ≤ size_in memory.old }
-    requires size_bound { size ≤ 1024 }
+    requires drops_fit { course.drops + length (merged (lines_in memory.old)) < 2 ^ 32 }
+    requires doubt_within { course.doubt ≤ size_in memory.old }
     ensures { Admitted limit memory.old memory.new course result }
 {
     let mut course = course;
-    while let Some(p) = next_line(memory, parents, limit) {
-        course = admit_one(memory, p, size, course);
+    while let Some(p) = next_line(memory, limit) {
+        course = admit_one(config, memory, p, course);
     }
     course
 }
@@ -85,9 +80,7 @@ fn copy_at(config: &Config, frame: &Frame, slot: u32) -> Option<u32>
     ensures { result ≡ copy_of (use_of (setup config.now) frame.now slot) }
 {
     let copies = config.copies();
-    let mut i = copies;
-    while i > 0 {
-        i -= 1;
+    for i in (0..copies).rev() {
         if u64::from(i) * u64::from(frame.slots) / u64::from(copies) == u64::from(slot) {
             return Some(i);
         }
@@ -106,7 +99,7 @@ pub(crate) fn fill<C: Carrier>(
     carrier: &mut C,
 ) -> Course
     requires all_whole { AllWhole (backlog_in memory.old) }
-    requires free_nonzero { adding ≡ true → 0 < (C.meaning carrier.old).free }
+    requires place_free { adding ≡ true → 0 < (C.meaning carrier.old).free }
     ensures filled { Filled (setup config.now) frame.now slot memory.old memory.new course result }
     ensures goes { Goes C.meaning adding (leaves (setup config.now) frame.now.number (use_of (setup config.now) frame.now slot) (backlog_in memory.old) ∷ []) carrier.old carrier.new }
 {
@@ -130,7 +123,7 @@ pub(crate) fn fill<C: Carrier>(
 // The backlog's first packet goes to the carrier or nowhere, or stuffing where none waits.
 fn hand_front<C: Carrier>(memory: &mut Memory<Entry>, adding: bool, carrier: &mut C)
     requires all_whole { AllWhole (backlog_in memory.old) }
-    requires free_nonzero { adding ≡ true → 0 < (C.meaning carrier.old).free }
+    requires place_free { adding ≡ true → 0 < (C.meaning carrier.old).free }
     ensures goes { Goes C.meaning adding (or_stuffing (choose (backlog_in memory.old)).0 ∷ []) carrier.old carrier.new }
     ensures backlog { backlog_in memory.new ≡ (choose (backlog_in memory.old)).1 }
     ensures rest { OnlyBacklog memory.old memory.new }
@@ -145,7 +138,7 @@ fn hand_front<C: Carrier>(memory: &mut Memory<Entry>, adding: bool, carrier: &mu
 // A packet goes to a carrier that has a place for it, or nowhere.
 fn hand<C: Carrier>(packet: &[u8], adding: bool, carrier: &mut C)
     requires whole { Whole packet.now }
-    requires free_nonzero { adding ≡ true → 0 < (C.meaning carrier.old).free }
+    requires place_free { adding ≡ true → 0 < (C.meaning carrier.old).free }
     ensures { Goes C.meaning adding (packet.now ∷ []) carrier.old carrier.new }
 {
     if adding {

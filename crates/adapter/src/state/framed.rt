@@ -26,7 +26,7 @@ impl Adapter {
         }
         let frame = self.records.oldest().ok_or(Refusal::NoRecord)?;
         let parents = self.config.rates().len();
-        let since = latest(&self.heard[..], parents).ok_or(Refusal::Unheard)?;
+        let since = latest(&self.heard[..parents]).ok_or(Refusal::Unheard)?;
         if frame.start < since {
             return Ok(Due::Skips {
                 number: frame.number,
@@ -34,7 +34,7 @@ impl Adapter {
             });
         }
         let end = frame.start + u64::from(self.config.ticks());
-        if !heard_until(&self.heard[..], parents, end) {
+        if !heard_until(&self.heard[..parents], end) {
             return Err(Refusal::Unheard);
         }
         Ok(Due::Places(frame))
@@ -46,9 +46,8 @@ impl Adapter {
         ensures after { view self.new ≡ skipping (view self.old) (hearings_in self.old) }
         ensures same { KeptSetup self.old self.new }
     {
-        let parents = self.config.rates().len();
-        let_go(&mut self.memory, parents, since);
-        restart(&mut self.heard[..], parents, since);
+        let_go(&mut self.memory, since);
+        restart(&mut self.heard[..], since);
         self.records.let_go_before(since);
         self.memory.empty_backlog();
         self.step = self.step.after(StepEvent::Skip);
@@ -57,12 +56,11 @@ impl Adapter {
     // Places a frame: in step its packets go to the carrier. Answers its number and how many packets were dropped in it.
     fn place_now<C: Carrier>(&mut self, frame: Frame, carrier: &mut C) -> (u32, u32)
         requires placeable_now { PlaceableNow self.old frame }
-        requires slots_bound { adds_in self.old.step ≡ true → frame.slots ≤ (C.meaning carrier.old).free }
+        requires places_free { adds_in self.old.step ≡ true → frame.slots ≤ (C.meaning carrier.old).free }
         ensures rule { Frames (setup_of self.old) (entries_of self.old) (view self.old) (C.meaning carrier.old) (placed_answer (adds_in self.old.step) result.0 result.1) (view self.new) (C.meaning carrier.new) }
         ensures same { KeptSetup self.old self.new }
         ensures kept { adds_in self.old.step ≡ false → carrier.new ≡ carrier.old }
     {
-        let parents = self.config.rates().len();
         let end = frame.start + u64::from(self.config.ticks());
         let adding = self.step.adds();
         let doubt = begin(&self.config, &mut self.memory, &frame, self.step);
@@ -74,7 +72,7 @@ impl Adapter {
             adding,
             carrier,
         );
-        restart(&mut self.heard[..], parents, end);
+        restart(&mut self.heard[..], end);
         self.records.done();
         self.step = self.step.after(StepEvent::Placed {
             doubt: course.doubt,

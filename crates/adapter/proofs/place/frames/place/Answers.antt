@@ -1,4 +1,4 @@
-use Rattle.std.proofs.Common.{length, sym, ap, ◌∙◌, subst, arith}
+use Rattle.std.proofs.Common.{sym, ap, ◌∙◌, subst, arith}
 use Rattle.config.specs.Setup.{setup}
 use Rattle.memory.specs.Memory.{lines_in, backlog_in, size_in}
 use Rattle.adapter.specs.Placing.{Admitted, AllWhole}
@@ -7,17 +7,15 @@ use Rattle.adapter.proofs.place.frames.place.Goals as goal
 
 pub loop-slot-init : goal.loop-slot-init
 loop-slot-init g c =
-    going_start g.C.Carrier.meaning (setup c.args.config.now) c.args.frame.now c.args.doubt c.args.adding c.args.memory.now _ c.requires.lines_in_order c.requires.all_whole.0 c.requires.all_whole.1 c.requires.doubt_le_backlog
+    going_start g.C.Carrier.meaning (setup c.args.config.now) c.args.frame.now c.args.doubt c.args.adding c.args.memory.now _ c.requires.lines_in_order c.requires.all_whole.0 c.requires.all_whole.1 c.requires.doubt_within
 
 pub admit_before-admitted-requires : goal.admit_before-admitted-requires
 admit_before-admitted-requires g c =
     let h = c.loop-slot.invariant in record {
-      parents_value = ap length c.rates.ensures ∙ omega (arith, c.args.config.now.rates.ok.0, c.requires.memory_value, h.shares.parents);
-      size_value = c.backlog.ensures ∙ sym (h.shares.size ∙ c.requires.memory_value_2);
+      shared = h.shares.size ∙ c.requires.shared;
       lines_in_order = lines_in_order (lines_in c.loop-slot.memory) h.rises;
-      memory_bound = omega (arith, h.fits, c.requires.memory_len_bound);
-      doubt_bound = omega (arith, h.placing.low, h.shares.size, c.requires.memory_value_2);
-      size_bound = omega (arith, c.backlog.ensures, c.args.config.now.settings.1);
+      drops_fit = omega (arith, h.fits, c.requires.few_wait);
+      doubt_within = omega (arith, h.placing.low, h.shares.size, c.requires.shared);
     }
 
 pub fill-course-requires : goal.fill-course-requires
@@ -25,7 +23,7 @@ fill-course-requires g c =
     let h = c.loop-slot.invariant in
     let a = c.admit_before-admitted.ensures in record {
       all_whole = subst AllWhole (sym a.backlog) (whole_joins (size_in c.loop-slot.memory) (backlog_in c.loop-slot.memory) _ h.whole_backlog (whole_before _ _ h.whole_lines));
-      free_nonzero = λ adding. has_place g.C.Carrier.meaning c.args.adding h.put _ _ adding h.goes (omega (arith, h.many, c.requires.slots_bound adding, ap (λ f. f.slots) c.frame.view_is));
+      place_free = λ adding. has_place g.C.Carrier.meaning c.args.adding h.put _ _ adding h.goes (omega (arith, h.many, c.requires.places_free adding, ap (λ f. f.slots) c.frame.view_is));
     }
 
 pub loop-slot-preserved : goal.loop-slot-preserved
@@ -33,10 +31,10 @@ loop-slot-preserved g c =
     let h = c.loop-slot.invariant in
     let admitted = subst (λ lim. Admitted lim c.loop-slot.memory c.admit_before-admitted.new.memory c.loop-slot.course c.admit_before-admitted.result) c.limit_of-limit.ensures c.admit_before-admitted.ensures in
     going_more g.C.Carrier.meaning (setup c.args.config.now) c.args.frame.now c.args.doubt c.args.adding c.args.memory.now c.loop-slot.memory _ _ _ _ _ c.loop-slot.course _ _ c.loop-slot.slot
-    c.requires.memory_value_2 (omega (arith, ap (λ f. f.slots) c.frame.view_is)) h admitted c.fill-course.ensures.filled c.fill-course.ensures.goes
+    c.requires.shared (omega (arith, ap (λ f. f.slots) c.frame.view_is)) h admitted c.fill-course.ensures.filled c.fill-course.ensures.goes
 
 pub returns : goal.returns
 returns g c =
     let done = going_end g.C.Carrier.meaning (setup c.args.config.now) c.args.frame.now c.args.doubt c.args.adding c.args.memory.now c.loop-slot.memory _ _ c.loop-slot.course c.loop-slot.slot
-    (omega (arith, ap (λ f. f.slots) c.frame.view_is)) c.requires.slots_nonzero.0 c.loop-slot.invariant in
+    (omega (arith, ap (λ f. f.slots) c.frame.view_is)) c.requires.frame_in_range.0 c.loop-slot.invariant in
     record { placed = done.0; carried = done.1 }

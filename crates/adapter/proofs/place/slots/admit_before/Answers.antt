@@ -1,4 +1,4 @@
-use Rattle.std.proofs.Common.{◌≡◌, List, [], ◌∷◌, get_or, sym, refl, ◌∙◌, arith}
+use Rattle.std.proofs.Common.{◌≡◌, List, [], ◌∷◌, get_or, refl, ◌∙◌, arith}
 use Rattle.memory.specs.Memory.{lines_in, line_in}
 use Rattle.rules.proofs.Merging.{rising_by, in_order_rises, length_merged_first}
 use Rattle.rules.proofs.Placing.{admitting_start, admitting_end, settled, lines_after}
@@ -12,7 +12,7 @@ use Rattle.adapter.proofs.place.slots.admit_before.Goals as goal
 pub loop-p-init : goal.loop-p-init
 loop-p-init c =
     let m = c.args.memory.now in (
-      admitting_start _ _ _ _ _ _ c.requires.doubt_bound,
+      admitting_start _ _ _ _ _ _ c.requires.doubt_within,
       rising_by (lines_in m) (λ q k. in_order_rises (get_or (lines_in m) q []) (c.requires.lines_in_order q)),
       refl,
       omega arith,
@@ -70,8 +70,7 @@ admit_one-course-requires c =
     let l = front (get_or ls c.in-Some.p []) c.in-Some.ensures.0 first.first in
     let more = length_merged_first ls c.in-Some.p c.in-Some.ensures.0 l.0 i.1 (earliest c.args.limit ls c.in-Some.p c.in-Some.ensures.0 l.0 first l.1) in
     record {
-      size_value = c.requires.size_value ∙ sym i.5.size;
-      drops_bound = omega (arith, i.3, c.requires.memory_bound);
-      doubt_bound = omega (arith, i.0.low, i.5.size);
-      size_bound = c.requires.size_bound;
+      shared = i.5.size ∙ c.requires.shared;
+      drops_fit = omega (arith, i.3, c.requires.drops_fit);
+      doubt_within = omega (arith, i.0.low, i.5.size);
     }

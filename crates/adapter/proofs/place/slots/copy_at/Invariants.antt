@@ -6,6 +6,3 @@ abbrev pub invariant-loop-i : goal.invariant-loop-i
 invariant-loop-i l =
     (use_among l.frame.slots l.copies l.slot l.copies ≡ use_among l.frame.slots l.copies l.slot l.i)
     × (l.i ≤ l.copies)
-
-abbrev pub decreases-loop-i : goal.decreases-loop-i
-decreases-loop-i l = l.i

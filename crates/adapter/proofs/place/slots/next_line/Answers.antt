@@ -1,6 +1,5 @@
 use Rattle.std.proofs.Common.{◌≡◌, ℕ, ◌+◌, List, length, Option, sym, ap, ◌∙◌, subst, arith}
 use Rattle.std.specs.Option.{option_map}
-use Rattle.memory.proofs.Shares.{length_lines}
 use Rattle.memory.specs.Memory.{lines_in, line_in}
 use Rattle.rules.specs.Entries.{Entry}
 use Rattle.adapter.proofs.Nexts.{Best, best_empty, best_stays, best_changes, best_end}
@@ -30,5 +29,5 @@ loop-p-preserved c =
 pub returns : goal.returns
 returns c =
     let ls = lines_in c.args.memory.now in
-    let all : c.loop-p.p ≡ length ls = omega (arith, c.requires, length_lines c.args.memory.now) in
+    let all : c.loop-p.p ≡ length ls = omega (arith, c.parents-p-end.ensures.lines) in
     best_end c.args.limit ls c.loop-p.bound c.loop-p.next (subst (λ n. Best c.args.limit n ls c.loop-p.bound c.loop-p.next) all c.loop-p.invariant)

@@ -5,7 +5,6 @@ use Rattle.rules.specs.Calls.{Frames, placed}
 use Rattle.rules.specs.Log.{framed}
 use Rattle.rules.specs.Slots.{end_of, doubt, reaches_zero, played, waiting}
 use Rattle.adapter.specs.Fields.{state_from}
-use Rattle.adapter.specs.Parents.{Restarted}
 use Rattle.adapter.specs.Placing.{AllWhole, Goes, placed_answer, turns_of_lines}
 use Rattle.adapter.specs.Steps.{adds_in, step_by}
 use Rattle.adapter.specs.View.{view, setup_of, entries_of, hearings_in}
@@ -13,7 +12,7 @@ use Rattle.adapter.specs.declared.step.StepEvent.TheVariants.{Placed}
 use Rattle.adapter.proofs.Keeping.{still_shared, same_then}
 use Rattle.adapter.proofs.Placed.{rising_begun, turns_are, parents_left, count_left, placed_rule}
 use Rattle.adapter.proofs.Sounds.{begun_whole, backlog_whole, doubt_low, few}
-use Rattle.adapter.proofs.Standing.{line_count, known_all, quiet_restarted, start_low, slots_low, slots_some}
+use Rattle.adapter.proofs.Standing.{known_all, quiet_restarted, start_low, slots_low, slots_some}
 use Rattle.adapter.proofs.Turns.{goes_means, kept, lines_in_order}
 use Rattle.adapter.proofs.Views.{state-≡, reached_by}
 use Rattle.adapter.proofs.state.Adapter.place_now.Given as given
@@ -34,28 +33,21 @@ place-course-requires g c =
     let m₁ = c.begin-doubt.new.memory in
     let e = c.begin-doubt.ensures in
     let roomy : a.config.backlog + length (vec_items a.config.rates) ≤ entries_in a.memory = due.called.roomy in record {
-      memory_value = e.rest.shares.parents ∙ a.parents;
-      memory_value_2 = e.rest.shares.size ∙ a.size ∙ omega arith;
+      shared = e.rest.shares.size ∙ a.size ∙ omega arith;
       lines_in_order = lines_in_order (lines_in m₁) (rising_begun a f c.requires.placeable_now.rest due m₁ m₁ e.lines);
-      memory_len_bound = few a m₁ e.rest.shares;
+      few_wait = few a m₁ e.rest.shares;
       all_whole = (begun_whole a (hearings_in a) f m₁ due.called.anchored e.lines, subst AllWhole (sym e.rest.backlog) (backlog_whole a));
-      slots_nonzero = (slots_some a f c.requires.placeable_now.rest first, slots_low a f c.requires.placeable_now.rest first, start_low a f c.requires.placeable_now.rest first);
-      doubt_le_backlog = omega (arith, e.doubt, doubt_low a);
-      slots_bound = λ adding. c.requires.slots_bound (sym c.adds-adding.ensures ∙ adding);
+      frame_in_range = (slots_some a f c.requires.placeable_now.rest first, slots_low a f c.requires.placeable_now.rest first, start_low a f c.requires.placeable_now.rest first);
+      doubt_within = omega (arith, e.doubt, doubt_low a);
+      places_free = λ adding. c.requires.places_free (sym c.adds-adding.ensures ∙ adding);
     }
 
 module _ (g : given.Over) (c : After-after-self g) where
   shares : SameShares c.args.self.now.memory c.place-course.new.memory
   shares = same_then _ _ _ c.begin-doubt.ensures.rest.shares c.place-course.ensures.placed.shares
 
-  many : length c.rates-parents.result.now ≡ length (lines_in c.args.self.now.memory)
-  many = ap length c.rates-parents.ensures ∙ sym (line_count c.args.self.now)
-
   ends : c.frame.inside.start + c.from.result ≡ end_of (setup_of c.args.self.now) c.args.frame
   ends = ap (λ s. s + c.from.result) (ap (λ f. f.start) c.frame.view_is) ∙ ap (λ t. c.args.frame.start + t) (c.from.ensures ∙ c.ticks.ensures)
-
-  restarts : Restarted (c.frame.inside.start + c.from.result) (length (lines_in c.args.self.now.memory)) c.args.self.now.heard c.restart.new.heard
-  restarts = subst (λ n. Restarted (c.frame.inside.start + c.from.result) n c.args.self.now.heard c.restart.new.heard) many c.restart.ensures
 
   left : state_from c.place-course.new.memory c.restart.new.heard c.done.new.self c.after-self.result
       ≡ placed (setup_of c.args.self.now) (view c.args.self.now) c.args.frame c.requires.placeable_now.rest (hearings_in c.args.self.now)
@@ -64,7 +56,7 @@ module _ (g : given.Over) (c : After-after-self g) where
       let a = c.args.self.now in
       let p = c.place-course.ensures.placed in
       state-≡
-      (parents_left a c.args.frame c.requires.placeable_now.rest c.requires.placeable_now.due c.begin-doubt.new.memory c.place-course.new.memory c.begin-doubt.ensures.lines c.restart.new.heard _ ends restarts p.lines)
+      (parents_left a c.args.frame c.requires.placeable_now.rest c.requires.placeable_now.due c.begin-doubt.new.memory c.place-course.new.memory c.begin-doubt.ensures.lines c.restart.new.heard _ ends c.restart.ensures p.lines)
       (c.done.ensures.waits ∙ ap (drop 1) c.requires.placeable_now.due.called.oldest)
       c.done.ensures.last
       (p.backlog ∙ ap (waiting a.config.backlog (turns_of_lines (setup_of a) c.args.frame (lines_in c.begin-doubt.new.memory))) c.begin-doubt.ensures.rest.backlog
@@ -95,7 +87,7 @@ module _ (g : given.Over) (c : After-after-self g) where
       rw (ap (λ f. f.number) c.frame.view_is)
       (placed_rule a f c.requires.placeable_now.rest c.requires.placeable_now.due m₁ c.place-course.new.memory c.begin-doubt.ensures.lines _ (g.C.Carrier.meaning c.args.carrier.now) (g.C.Carrier.meaning c.place-course.new.carrier)
       c.place-course.result.drops c.place-course.result.doubt c.place-course.result.zero b₁ c.begin-doubt.ensures.rest.backlog
-      c.requires.slots_bound
+      c.requires.places_free
       p.counts
       (p.doubts ∙ ap (doubt a.config.backlog ts) c.begin-doubt.ensures.doubt)
       (p.zero ∙ ap (reaches_zero a.config.backlog ts) c.begin-doubt.ensures.doubt)
@@ -112,7 +104,7 @@ invariant_of-self g c =
       size = shared.1;
       room = shared.2;
       quiet =
-          quiet_restarted _ (length (lines_in a.memory)) a.heard c.restart.new.heard m₂ (restarts g c) (known_all a (hearings_in a) c.requires.placeable_now.due.called.anchored)
+          quiet_restarted _ (length (lines_in a.memory)) a.heard c.restart.new.heard m₂ c.restart.ensures (known_all a (hearings_in a) c.requires.placeable_now.due.called.anchored)
           (let same = count_left a c.args.frame c.requires.placeable_now.rest c.requires.placeable_now.due c.begin-doubt.new.memory m₂ c.begin-doubt.ensures.lines c.place-course.ensures.placed.lines in omega arith);
       reached = reached_by (framed _ _ _) (shares g c).entries (rule g c) a.reached;
     }

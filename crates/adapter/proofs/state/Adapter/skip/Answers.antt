@@ -1,4 +1,4 @@
-use Rattle.std.proofs.Common.{◌≡◌, [], map, length, Some, sym, refl, ap, ◌∙◌, arith}
+use Rattle.std.proofs.Common.{◌≡◌, [], map, length, Some, refl, ap, ◌∙◌, arith}
 use Rattle.std.proofs.lemmas.List.{length-map}
 use Rattle.memory.specs.Memory.{lines_in, SameShares}
 use Rattle.rules.specs.Calls.{skips, skipped, skipping, let_go, records_from}
@@ -10,13 +10,10 @@ use Rattle.adapter.specs.Parents.{parents_by}
 use Rattle.adapter.specs.View.{view, hearings_in}
 use Rattle.adapter.proofs.Anchored.{restarted_heard}
 use Rattle.adapter.proofs.Keeping.{still_shared, same_then}
-use Rattle.adapter.proofs.Standing.{line_count, places_suffice, known_all, quiet_restarted}
+use Rattle.adapter.proofs.Standing.{places_suffice, known_all, quiet_restarted}
 use Rattle.adapter.proofs.Views.{state-≡, reached_by}
 use Rattle.adapter.proofs.state.Adapter.skip.Goals as goal
 use Rattle.adapter.proofs.state.Adapter.skip.Goals.{After-after-self}
-
-many : (c : After-after-self) → length c.rates-parents.result.now ≡ length (lines_in c.args.self.now.memory)
-many c = ap length c.rates-parents.ensures ∙ sym (line_count c.args.self.now)
 
 lines : (c : After-after-self) → lines_in c.empty_backlog.new.self ≡ map (from_on c.args.since) (lines_in c.args.self.now.memory)
 lines c = c.empty_backlog.ensures.rest.lines ∙ c.let_go.ensures.lines
@@ -33,7 +30,7 @@ left c =
     state-≡
     (ap (parents_by c.restart.new.heard) (lines c)
     ∙ restarted_heard c.args.since a.heard c.restart.new.heard (lines_in a.memory) (places_suffice a) c.restart.ensures.many (known_all a hs c.requires.called.anchored)
-    (λ p l k. c.restart.ensures.lower p l (omega (arith, many c)))
+    (λ p l k. c.restart.ensures.each p l)
     ∙ ap (λ m. map (λ h. Some (let_go m h)) hs) c.requires.is)
     (c.let_go_before.ensures.waits ∙ ap (λ m. records_from m (view a).records) c.requires.is)
     c.let_go_before.ensures.last
@@ -51,9 +48,9 @@ invariant_of-self c =
       size = shared.1;
       room = shared.2;
       quiet =
-          quiet_restarted c.args.since (length c.rates-parents.result.now) a.heard c.restart.new.heard c.empty_backlog.new.self c.restart.ensures
-          (λ p k e. known_all a hs c.requires.called.anchored p (omega (arith, many c)) e)
-          (let same = ap length (lines c) ∙ length-map (lines_in a.memory) (from_on c.args.since) in omega (arith, many c));
+          quiet_restarted c.args.since (length (lines_in a.memory)) a.heard c.restart.new.heard c.empty_backlog.new.self c.restart.ensures
+          (known_all a hs c.requires.called.anchored)
+          (let same = ap length (lines c) ∙ length-map (lines_in a.memory) (from_on c.args.since) in omega arith);
       reached =
           reached_by (framed empty (skipped c.requires.frame.number) empty) (shares c).entries
           (skips c.requires.frame c.requires.rest hs c.requires.called c.requires.early refl (left c) refl) a.reached;

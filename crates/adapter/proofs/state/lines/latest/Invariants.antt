@@ -1,6 +1,5 @@
-use Rattle.std.proofs.Common.{Some}
-use Rattle.adapter.specs.Parents.{LatestSo}
+use Rattle.adapter.proofs.Letting.{Latest-below}
 use Rattle.adapter.proofs.state.lines.latest.Given as goal
 
-abbrev pub invariant-loop-p : goal.invariant-loop-p
-invariant-loop-p l = LatestSo l.heard l.p (Some l.latest)
+abbrev pub invariant-loop-known : goal.invariant-loop-known
+invariant-loop-known l = Latest-below l.heard l.known-index l.latest

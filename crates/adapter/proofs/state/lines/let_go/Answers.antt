@@ -14,7 +14,7 @@ loop-p-preserved c =
     let m₀ = c.args.memory.now in
     let i = c.loop-p.invariant in
     let rest = c.let_go_before.ensures.rest in (
-      cut_one c.args.since c.loop-p.p (lines_in m₀) (lines_in c.loop-p.memory) _ (omega (arith, i.0.many, length_lines m₀, c.requires)) i.0
+      cut_one c.args.since c.loop-p.p (lines_in m₀) (lines_in c.loop-p.memory) _ (omega (arith, i.0.many, length_lines m₀, c.parents-p-end.ensures.lines)) i.0
           (c.let_go_before.ensures.lines ∙ ap (set (lines_in c.loop-p.memory) c.loop-p.p) (entries_from c.args.since (get_or (lines_in c.loop-p.memory) c.loop-p.p []))),
       record { backlog = rest.backlog ∙ i.1.backlog; shares = same_then _ _ _ i.1.shares rest.shares },
     )
@@ -22,5 +22,5 @@ loop-p-preserved c =
 pub returns : goal.returns
 returns c =
     let m₀ = c.args.memory.now in
-    let all : c.loop-p.p ≡ length (lines_in m₀) = omega (arith, length_lines m₀, c.requires) in
+    let all : c.loop-p.p ≡ length (lines_in m₀) = omega (arith, length_lines m₀, c.parents-p-end.ensures.lines) in
     record { lines = cut_all c.args.since (lines_in m₀) _ (subst (λ n. Cut-below c.args.since n (lines_in m₀) (lines_in c.loop-p.memory)) all c.loop-p.invariant.0); rest = c.loop-p.invariant.1 }

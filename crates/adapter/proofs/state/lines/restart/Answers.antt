@@ -1,23 +1,19 @@
-use Rattle.std.proofs.Common.{◌≡◌, ◌+◌, sym, ◌∙◌, subst, arith}
-use Rattle.adapter.specs.Parents.{Restarted}
-use Rattle.adapter.proofs.Letting.{known_at, restart_none, restart_some, restart_silent}
+use Rattle.std.proofs.Common.{rules, ◌≡◌, ◌<◌, List, length, None, ap, ◌∙◌, arith}
+use Rattle.std.proofs.lemmas.List.{get_or_read}
+use Rattle.rules.specs.Entries.{Entry}
+use Rattle.adapter.specs.Parents.{parent_of, moved}
+use Rattle.adapter.proofs.Letting.{restart_none, restart_one, restart_all}
 use Rattle.adapter.proofs.state.lines.restart.Goals as goal
-use Rattle.adapter.proofs.state.lines.restart.Goals.{in-Some, in_default}
 
-pub loop-p-init : goal.loop-p-init
-loop-p-init c = restart_none c.args.since c.args.heard.now
+pub loop-known-init : goal.loop-known-init
+loop-known-init c = restart_none c.args.since c.args.heard.now
 
-pub loop-p-preserved : goal.loop-p-preserved
-loop-p-preserved c =
-    let here = known_at c.loop-p.heard c.loop-p.p c.index-heard-p.result (omega arith) c.index-heard-p.is in
-    elim c.match-known.branch [
-      | in-Some w ↦
-          subst (Restarted c.args.since (c.loop-p.p + 1) c.args.heard.now) (sym w.heard-is)
-          (restart_some c.args.since c.loop-p.p c.args.heard.now c.loop-p.heard w.in-Some.times w.since.result (omega arith) c.loop-p.invariant (here ∙ w.in-Some.is) w.since.ensures)
-      | in_default w ↦
-          subst (Restarted c.args.since (c.loop-p.p + 1) c.args.heard.now) (sym w.heard-is)
-          (restart_silent c.args.since c.loop-p.p c.args.heard.now c.loop-p.heard c.loop-p.invariant (here ∙ w.in_default.is))
-    ]
+pub loop-known-preserved : goal.loop-known-preserved
+loop-known-preserved c =
+    let within : c.loop-known.known-index < length c.loop-known.heard = omega (arith, c.loop-known.auto.heard, c.loop-known-test.true) in
+    let made : (line : List Entry) → parent_of c.map.result line ≡ moved c.args.since (parent_of c.known-item.result line) = search rules in
+    restart_one c.args.since c.loop-known.known-index c.args.heard.now c.loop-known.heard c.map.result within c.loop-known.invariant
+    (λ line. made line ∙ ap (λ o. moved c.args.since (parent_of o line)) (get_or_read _ _ _ within c.known-item.is None))
 
 pub returns : goal.returns
-returns c = let all : c.loop-p.p ≡ c.args.parents = omega arith in subst (λ n. Restarted c.args.since n c.args.heard.now c.loop-p.heard) all c.loop-p.invariant
+returns c = restart_all c.args.since c.loop-known.known-index c.args.heard.now c.loop-known.heard (omega arith) c.loop-known.invariant

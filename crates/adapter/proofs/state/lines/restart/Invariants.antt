@@ -1,5 +1,5 @@
-use Rattle.adapter.specs.Parents.{Restarted}
+use Rattle.adapter.proofs.Letting.{Restarted-below}
 use Rattle.adapter.proofs.state.lines.restart.Given as goal
 
-abbrev pub invariant-loop-p : goal.invariant-loop-p
-invariant-loop-p l = Restarted l.since l.p l.initial.heard l.heard
+abbrev pub invariant-loop-known : goal.invariant-loop-known
+invariant-loop-known l = Restarted-below l.since l.known-index l.initial.heard l.heard
