@@ -1,4 +1,5 @@
 // A frame is placed slot by slot: admissions, then the slot's packet.
+// Its steps name what they read beside the memory that they change: no two of them need the same.
 #[derive(Clone, Copy)]
 pub(crate) struct Course {
     // Packets dropped in this frame so far.

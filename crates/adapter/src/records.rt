@@ -15,6 +15,7 @@ const MOST_SLOTS: u32 = 4096;
 // So many records may wait.
 const PLACES: usize = 8;
 
+// A fixed array and a line over it: no call allocates.
 #[derive(Drop)]
 pub(crate) struct Records {
     frames: [Frame; PLACES],

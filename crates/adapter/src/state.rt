@@ -25,7 +25,7 @@ pub struct Adapter {
     config: Config,
     // The backlog and the parents' lines.
     memory: Memory<Entry>,
-    // What is known of each parent; nothing of one that has no anchor.
+    // What is known of each parent; nothing of one that has no anchor. A fixed array: no call allocates.
     heard: [Option<Times>; 4],
     records: Records,
     step: Step,
