@@ -1,120 +1,87 @@
--- Frames by their numbers: what a walk over the first site's frames has found so far. Assumes nothing.
-use Rattle.std.proofs.Common.{◌≡◌, ℕ, zero, suc, ◌+◌, ◌<◌, ◌≤◌, max, true, false, ◌&&◌, ◌||◌, eqb, leb, List, [], ◌∷◌, length, get_or, take, drop, IfSome, Some, None, Option, sym, refl, ap, ◌∙◌, subst, ⊎_elim, arith}
-use Rattle.std.specs.List.{ContainsAt as Has, AllByRecursion as All}
-use Rattle.std.proofs.ByRecursion.{has_get_or, all-has, All-more, All-weaker}
-use Rattle.std.proofs.lemmas.List.{at_drop_more, take_all}
-use Rattle.std.proofs.lemmas.Bool.{cases_lt, eq-eqb, eqb-true, ne_eqb, or_left, or_right, or_cases, both_ways, le-leb, leb-true, le-ltb, ltb-true, ltb-false, and_parts, and_cases}
+-- Frames by their numbers: which differ, which both sites added, and from which number on they agree. Assumes nothing.
+use Rattle.std.proofs.Common.{◌≡◌, ℕ, ◌+◌, ◌≤◌, max, min, true, false, ◌&&◌, eqb, leb, List, map, Some, None, Option, sym, ap, ◌∙◌, subst, ⊎_elim, arith}
+use Rattle.std.specs.List.{Contains, filter, reduce, list_any}
+use Rattle.std.specs.Option.{MatchOption, unwrap_or}
+use Rattle.std.proofs.lemmas.List.Folds.{Any-from_list_any, list_any_at}
+use Rattle.std.proofs.lemmas.Slice.Eq.{bytes_eq-Decides}
+use Rattle.std.proofs.lemmas.Bool.{cases_lt, cases_Bool, eq-eqb, eqb-true, both_ways, le-leb, leb-true, and_parts, and_from, not-true, not_from_false, false_from_ne_true}
+use Rattle.std.specs.Str.{bytes_eq}
 use Rattle.agreement.specs.declared.Added.{Added}
-use Rattle.agreement.specs.Agreement.{is_among, lower, DiffersAmong, AlikeAmong, Common, UnequalOn, EqualFrom, Agreed}
+use Rattle.agreement.specs.Agreement.{is_among, packets_in, differ_in, Differ, Alike, DiffersAmong, AlikeAmong, Common, EqualFrom, Agreed}
+use Rattle.agreement.proofs.Best.{BestOf, least_of, greatest_of}
 
--- what stands at a place is in the list
-pub has_item : {X : Type 0} (xs : List X) (i : ℕ) (x : X) → i < length xs → x ≡ get_or xs i x → Has xs x
-has_item xs i x lt is = subst (Has xs) (sym is) (has_get_or xs i x lt)
+-- the test of two frames says whether they differ
+differ : (x y : Added) → differ_in x y ≡ true → Differ x y
+differ x y told =
+    let parts = and_parts _ _ told in
+    (eqb-true _ _ parts.0, λ same. both_ways (bytes_eq (packets_in x) (packets_in y)) (not-true _ parts.1) ((bytes_eq-Decides (packets_in x) (packets_in y)).1 same))
 
--- what holds of all so far and of the one that stands there holds of all up to it
-pub all_item : {X : Type 0} (P : X → Type 0) (xs : List X) (i : ℕ) (x : X) → i < length xs → x ≡ get_or xs i x → All P (take i xs) → P x → All P (take (i + 1) xs)
-all_item P xs i x lt is all here = All-more P xs i x lt all (subst P is here)
+alike : (x y : Added) → differ_in x y ≡ false → Alike x y
+alike x y told number =
+    ⊎_elim
+    (λ same. (bytes_eq-Decides (packets_in x) (packets_in y)).0 same)
+    (λ other. absurd (both_ways (differ_in x y) told (and_from _ _ (eq-eqb _ _ number) (not_from_false _ other))))
+    (cases_Bool (bytes_eq (packets_in x) (packets_in y)))
 
--- what holds of all so far holds of every element, at the end
-pub all_seen : {X : Type 0} (P : X → Type 0) (xs : List X) (i : ℕ) → length xs ≤ i → All P (take i xs) → (x : X) → Has xs x → P x
-all_seen P xs i end all x has = all-has P xs x (subst (All P) (take_all i xs end) all) has
+-- the same of one frame and some others
+differs_among : (x : Added) (ys : List Added) → list_any (differ_in x) ys ≡ true → DiffersAmong x ys
+differs_among x ys told =
+    let at = Any-from_list_any (differ_in x) ys told in
+    (at.1, (at.0, at.2, at.3), differ x at.1 at.4)
 
-pub among_has : (ys : List Added) (n : ℕ) → is_among ys n ≡ true → (y : Added) × Has ys y × (y.number ≡ n)
-among_has [] n is = let z : ◌≡◌ {A = ℕ} 0 1 = cc in absurd (omega arith)
-among_has (y ∷ ys) n is = ⊎_elim here (λ told. later (among_has ys n told)) (or_cases (eqb y.number n) (is_among ys n) is)
-  where
-    here : eqb y.number n ≡ true → (z : Added) × Has (y ∷ ys) z × (z.number ≡ n)
-    here told = (y, (0, omega arith, λ d. refl), eqb-true _ _ told)
+alike_among : (x : Added) (ys : List Added) → (list_any (differ_in x) ys ≡ true → ⊥) → AlikeAmong x ys
+alike_among x ys none y at = alike x y (false_from_ne_true _ (λ yes. none (list_any_at (differ_in x) ys at.0 y at.1 (ap (differ_in x) at.2 ∙ yes))))
 
-    later : (z : Added) × Has ys z × (z.number ≡ n) → (z : Added) × Has (y ∷ ys) z × (z.number ≡ n)
-    later at = (at.0, (suc at.1.0, omega (arith, at.1.1), at.1.2), at.2)
+-- a number is among those of some frames exactly if one of them has it
+among_has : (ys : List Added) (n : ℕ) → is_among ys n ≡ true → (y : Added) × Contains ys y × (y.number ≡ n)
+among_has ys n told =
+    let at = Any-from_list_any (λ (y : Added). eqb y.number n) ys told in
+    (at.1, (at.0, at.2, at.3), eqb-true _ _ at.4)
 
-has_among : (ys : List Added) (k : ℕ) (d : Added) → k < length ys → is_among ys (get_or ys k d).number ≡ true
-has_among [] k d lt = absurd (omega arith)
-has_among (y ∷ ys) zero d lt = or_left (eqb y.number y.number) _ (eq-eqb y.number y.number refl)
-has_among (y ∷ ys) (suc k) d lt = or_right (eqb y.number (get_or ys k d).number) _ (has_among ys k d (omega arith))
-
-pub is_among_has : (ys : List Added) (y : Added) → Has ys y → is_among ys y.number ≡ true
-is_among_has ys y has = subst (λ (z : Added). is_among ys z.number ≡ true) (has.2 y) (has_among ys has.0 y has.1)
-
--- a walk over frames in search of a number
-pub among_here : (ys : List Added) (i n : ℕ) (y : Added) → i < length ys → y ≡ get_or ys i y → y.number ≡ n → is_among (drop i ys) n ≡ true
-among_here ys i n y lt is here =
-    at_drop_more (λ zs. is_among zs n) ys i y lt ∙ or_left _ _ (eq-eqb _ _ (ap (λ (z : Added). z.number) (sym is) ∙ here))
-
-pub among_past : (ys : List Added) (i n : ℕ) (y : Added) → i < length ys → y ≡ get_or ys i y → (y.number ≡ n → ⊥) → is_among (drop i ys) n ≡ is_among (drop (i + 1) ys) n
-among_past ys i n y lt is other =
-    at_drop_more (λ zs. is_among zs n) ys i y lt ∙ ap (λ b. b || is_among (drop (i + 1) ys) n) (ne_eqb _ _ (λ e. other (ap (λ (z : Added). z.number) is ∙ e)))
-
--- what is no lower than the lowest so far is no lower than one that is lower still
-below : (lowest : Option ℕ) (f n : ℕ) → lower f lowest ≡ true → lower n lowest ≡ false → lower n (Some f) ≡ false
-below None f n is not = absurd (both_ways true not refl)
-below (Some l) f n is not = let a = ltb-true f l is in let b = ltb-false n l not in le-ltb n f (omega arith)
+is_among_has : (ys : List Added) (y : Added) → Contains ys y → is_among ys y.number ≡ true
+is_among_has ys y at = list_any_at (λ (z : Added). eqb z.number y.number) ys at.0 y at.1 (eq-eqb _ _ (ap (λ (z : Added). z.number) at.2))
 
 module _ (first second : List Added) where
-  -- Of the first i frames none differs from m on, and from any lower number on some frame differs.
-  pub record EqualSoFar (i m : ℕ) : Type 0 where
-    pub equal : All (λ x. m ≤ x.number → AlikeAmong x second) (take i first)
-    pub unequal : (n : ℕ) → n < m → UnequalOn first second n
-
-  pub equal_past : (i m : ℕ) (x : Added) → i < length first → x ≡ get_or first i x → EqualSoFar i m → AlikeAmong x second → EqualSoFar (i + 1) m
-  equal_past i m x lt is so alike = record { equal = all_item _ first i x lt is so.equal (λ le. alike); unequal = so.unequal }
-
-  pub equal_moves : (i m : ℕ) (x : Added) → i < length first → x ≡ get_or first i x → EqualSoFar i m → DiffersAmong x second → EqualSoFar (i + 1) (max m (x.number + 1))
-  equal_moves i m x lt is so differs =
-      record {
-        equal = all_item _ first i x lt is (All-weaker _ _ (λ z old le. old (omega arith)) (take i first) so.equal) (λ le. absurd (omega arith));
-        unequal = λ n below. ⊎_elim (λ low. so.unequal n low) (λ high. (x, has_item first i x lt is, omega arith, differs)) (cases_lt n m);
-      }
-
-  -- Of the first i frames that both added and that are numbered m or higher, this is the lowest.
-  pub record LowestSoFar (m i : ℕ) (lowest : Option ℕ) : Type 0 where
-    pub none_lower : All (λ x. m ≤ x.number → is_among second x.number ≡ true → lower x.number lowest ≡ false) (take i first)
-    pub is_common : IfSome lowest (λ f. (m ≤ f) × Common first second f)
-
-  -- at a frame that is lower, and at one that is not
-  pub lowest_moves : (m i : ℕ) (lowest : Option ℕ) (x : Added) → i < length first → x ≡ get_or first i x → LowestSoFar m i lowest
-      → true ≡ (leb m x.number && lower x.number lowest && is_among second x.number) → LowestSoFar m (i + 1) (Some x.number)
-  lowest_moves m i lowest x lt is so told =
-      let parts = and_parts _ _ (sym told) in
-      let front = and_parts (leb m x.number) (lower x.number lowest) parts.0 in
-      let there = among_has second x.number parts.1 in
-      record {
-        none_lower = all_item _ first i x lt is (All-weaker _ _ (λ z old from-m among. below lowest x.number z.number front.1 (old from-m among)) (take i first) so.none_lower) (λ from-m among. le-ltb _ _ (omega arith));
-        is_common = (leb-true _ _ front.0, (x, there.0, has_item first i x lt is, there.1, refl, there.2));
-      }
-
-  pub lowest_stays : (m i : ℕ) (lowest : Option ℕ) (x : Added) → i < length first → x ≡ get_or first i x → LowestSoFar m i lowest
-      → false ≡ (leb m x.number && lower x.number lowest && is_among second x.number) → LowestSoFar m (i + 1) lowest
-  lowest_stays m i lowest x lt is so told =
-      record {
-        none_lower = all_item _ first i x lt is so.none_lower (λ from-m among. not_lower (le-leb _ _ from-m) among);
-        is_common = so.is_common;
-      }
+  -- one above the highest number at which two frames differ
+  pub equal_from_greatest : (r : Option ℕ) → r ≡ reduce max (map (λ x. x.number + 1) (filter (λ x. list_any (differ_in x) second) first)) → EqualFrom first second (unwrap_or r 0)
+  equal_from_greatest r is = by r (subst (λ (o : Option ℕ). MatchOption o NoneDiffers HighestIs) (sym is) (greatest_of (λ x. x.number + 1) (λ x. list_any (differ_in x) second) first))
     where
-      not_lower : leb m x.number ≡ true → is_among second x.number ≡ true → lower x.number lowest ≡ false
-      not_lower from-m among =
-          ⊎_elim
-          (λ front. ⊎_elim (λ low. absurd (both_ways _ low from-m)) (λ not. not) (and_cases (leb m x.number) (lower x.number lowest) front))
-          (λ absent. absurd (both_ways _ absent among))
-          (and_cases (leb m x.number && lower x.number lowest) (is_among second x.number) (sym told))
+      NoneDiffers : Type 0
+      NoneDiffers = (x : Added) → Contains first x → list_any (differ_in x) second ≡ true → ⊥
 
-  -- at the end
-  pub lowest_agreed : (m i : ℕ) (lowest : Option ℕ) → length first ≤ i → EqualFrom first second m → LowestSoFar m i lowest → Agreed first second lowest
-  lowest_agreed m i lowest end from so = by lowest so
-    where
-      none_from : (l : Option ℕ) → LowestSoFar m i l → (n : ℕ) → m ≤ n → Common first second n → lower n l ≡ false
-      none_from l so n le both =
-          let x = both.0 in
-          let y = both.1 in
-          let low : lower x.number l ≡ false =
-          all_seen _ first i end so.none_lower x both.2 (omega (arith, both.4)) (ap (is_among second) (both.4 ∙ sym both.5) ∙ is_among_has second y both.3) in
-          ap (λ k. lower k l) (sym both.4) ∙ low
+      HighestIs : ℕ → Type 0
+      HighestIs m = BestOf (λ m n. n ≤ m) (λ x. x.number + 1) (λ x. list_any (differ_in x) second) first m
 
-      by : (l : Option ℕ) → LowestSoFar m i l → Agreed first second l
-      by None so = λ n both. ⊎_elim (from.1 n) (λ le. absurd (both_ways true (none_from None so n le both) refl)) (cases_lt n m)
-      by (Some f) so = (
-        so.is_common.1,
-        λ x has le. from.0 x has (omega (arith, so.is_common.0)),
-        λ n less both. ⊎_elim (from.1 n) (λ le. absurd (omega (arith, ltb-false _ _ (none_from (Some f) so n le both)))) (cases_lt n m),
+      by : (o : Option ℕ) → MatchOption o NoneDiffers HighestIs → EqualFrom first second (unwrap_or o 0)
+      by None none = (λ x has le. alike_among x second (none x has), λ n less. absurd (omega arith))
+      by (Some m) highest = (
+        λ x has le. alike_among x second (λ told. absurd (omega (arith, highest.first x has told))),
+        λ n less. (highest.one_of.0, highest.one_of.1, omega (arith, highest.one_of.3), differs_among highest.one_of.0 second highest.one_of.2),
       )
+
+  -- the lowest number from there on that both added
+  module _ (from : ℕ) (equal : EqualFrom first second from) where
+    added : (n : ℕ) → from ≤ n → (both : Common first second n) → (leb from both.0.number && is_among second both.0.number) ≡ true
+    added n le both =
+        and_from _ _ (le-leb _ _ (omega (arith, both.4)))
+        (ap (is_among second) (both.4 ∙ sym both.5) ∙ is_among_has second both.1 both.3)
+
+    pub agreed_least : (r : Option ℕ) → r ≡ reduce min (map (λ x. x.number) (filter (λ x. leb from x.number && is_among second x.number) first)) → Agreed first second r
+    agreed_least r is = by r (subst (λ (o : Option ℕ). MatchOption o NoneAdded LowestIs) (sym is) (least_of (λ x. x.number) (λ x. leb from x.number && is_among second x.number) first))
+      where
+        NoneAdded : Type 0
+        NoneAdded = (x : Added) → Contains first x → (leb from x.number && is_among second x.number) ≡ true → ⊥
+
+        LowestIs : ℕ → Type 0
+        LowestIs m = BestOf ◌≤◌ (λ x. x.number) (λ x. leb from x.number && is_among second x.number) first m
+
+        by : (o : Option ℕ) → MatchOption o NoneAdded LowestIs → Agreed first second o
+        by None none = λ n both. ⊎_elim (equal.1 n) (λ le. absurd (none both.0 both.2 (added n le both))) (cases_lt n from)
+        by (Some f) lowest =
+            let x = lowest.one_of.0 in
+            let parts = and_parts (leb from x.number) (is_among second x.number) lowest.one_of.2 in
+            let y = among_has second x.number parts.1 in (
+              (x, y.0, lowest.one_of.1, y.1, lowest.one_of.3, y.2 ∙ lowest.one_of.3),
+              λ z has le. equal.0 z has (omega (arith, leb-true _ _ parts.0, lowest.one_of.3)),
+              λ n less both. ⊎_elim (equal.1 n) (λ le. absurd (omega (arith, lowest.first both.0 both.2 (added n le both), both.4))) (cases_lt n from),
+            )

@@ -1,6 +1,7 @@
 -- Frames that two sites added: where two frames differ, which frames both added, and from which number on those are equal. Assumes nothing.
-use Rattle.std.specs.Prelude.{◌≡◌, ℕ, ◌+◌, ◌*◌, ◌<◌, ◌≤◌, Bool, true, false, ◌||◌, List, [], ◌∷◌, take, drop, Some, None, vec_items, count_by, Option, ◌==◌, ◌≢◌, nat_lt}
-use Rattle.std.specs.List.{ContainsAt as Has}
+use Rattle.std.specs.Prelude.{◌≡◌, ℕ, ◌+◌, ◌*◌, ◌<◌, ◌≤◌, Bool, true, ◌&&◌, not, List, take, drop, Some, None, vec_items, Contains, count_by, Option, ◌==◌, ◌≢◌, nat_lt}
+use Rattle.std.specs.List.{list_any}
+use Rattle.std.specs.Str.{bytes_eq}
 use Rattle.agreement.specs.declared.Added.{Added}
 
 -- the bytes of a frame's packets, end to end
@@ -23,8 +24,7 @@ PartsAt x y (Some i) = (take i x ≡ take i y) × (take (i + 1) x ≢ take (i + 
 
 -- whether some frame has this number
 abbrev pub is_among : List Added → ℕ → Bool
-is_among [] n = false
-is_among (x ∷ xs) n = x.number == n || is_among xs n
+is_among frames n = list_any (λ x. x.number == n) frames
 
 -- how many frames of the first the second added too
 abbrev pub common_in : List Added → List Added → ℕ
@@ -37,12 +37,16 @@ Differ x y = (x.number ≡ y.number) × (packets_in x ≢ packets_in y)
 abbrev pub Alike : Added → Added → Type 0
 Alike x y = x.number ≡ y.number → packets_in x ≡ packets_in y
 
+-- whether two frames do, as a test
+abbrev pub differ_in : Added → Added → Bool
+differ_in x y = x.number == y.number && not (bytes_eq (packets_in x) (packets_in y))
+
 -- the same of one frame and some others
 abbrev pub DiffersAmong : Added → List Added → Type 0
-DiffersAmong x ys = (y : Added) × Has ys y × Differ x y
+DiffersAmong x ys = (y : Added) × Contains ys y × Differ x y
 
 abbrev pub AlikeAmong : Added → List Added → Type 0
-AlikeAmong x ys = (y : Added) → Has ys y → Alike x y
+AlikeAmong x ys = (y : Added) → Contains ys y → Alike x y
 
 -- whether a number is lower than the lowest so far, if there is one
 abbrev pub lower : ℕ → Option ℕ → Bool
@@ -52,15 +56,15 @@ lower n (Some m) = nat_lt n m
 module _ (first second : List Added) where
   -- Both added frame n.
   abbrev pub Common : ℕ → Type 0
-  Common n = (x : Added) × (y : Added) × Has first x × Has second y × (x.number ≡ n) × (y.number ≡ n)
+  Common n = (x : Added) × (y : Added) × Contains first x × Contains second y × (x.number ≡ n) × (y.number ≡ n)
 
   -- Every frame numbered n or higher that both added is equal: each of the one's and each of the other's of that number.
   abbrev pub EqualOn : ℕ → Type 0
-  EqualOn n = (x : Added) → Has first x → n ≤ x.number → AlikeAmong x second
+  EqualOn n = (x : Added) → Contains first x → n ≤ x.number → AlikeAmong x second
 
   -- Some frame numbered n or higher that both added differs.
   abbrev pub UnequalOn : ℕ → Type 0
-  UnequalOn n = (x : Added) × Has first x × (n ≤ x.number) × DiffersAmong x second
+  UnequalOn n = (x : Added) × Contains first x × (n ≤ x.number) × DiffersAmong x second
 
   -- The lowest number from which on all that both added is equal.
   abbrev pub EqualFrom : ℕ → Type 0

@@ -60,18 +60,10 @@ fn sites_agree_from(rt: HostRuntime) -> Result<(), Fail> {
     for (i, (first, second, common, agreed)) in CASES.iter().enumerate() {
         let one = site(heap, first)?;
         let other = site(heap, second)?;
+        assert_eq!(rt; in_common(&one, &other), *common, "case {i}");
+        assert_eq!(rt; agreed_from(&one, &other), *agreed, "case {i}");
         assert_eq!(rt;
-            in_common(one.as_slice(), other.as_slice()),
-            *common,
-            "case {i}"
-        );
-        assert_eq!(rt;
-            agreed_from(one.as_slice(), other.as_slice()),
-            *agreed,
-            "case {i}"
-        );
-        assert_eq!(rt;
-            agreed_from(other.as_slice(), one.as_slice()),
+            agreed_from(&other, &one),
             *agreed,
             "case {i} the other way"
         );

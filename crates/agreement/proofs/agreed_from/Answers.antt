@@ -1,22 +1,20 @@
-use Rattle.std.proofs.Common.{◌+◌, sym, subst}
-use Rattle.agreement.proofs.Numbers.{LowestSoFar, lowest_moves, lowest_stays, lowest_agreed}
+use Rattle.std.proofs.Common.{◌&&◌, leb, sym, ◌∙◌, rules, tests}
+use Rattle.std.proofs.lemmas.Iterator.{YieldsList-from_slice, YieldsList-from_map}
+use Rattle.std.proofs.lemmas.Iterator.Adapters.{option_map_id}
+use Rattle.std.proofs.lemmas.Iterator.Consumers.{YieldsList-at, YieldsList-from_filter, min_from_yields_List}
+use Rattle.agreement.specs.Agreement.{is_among}
+use Rattle.agreement.proofs.Numbers.{agreed_least}
 use Rattle.agreement.proofs.agreed_from.Goals as goal
-use Rattle.agreement.proofs.agreed_from.Goals.{then-is_next, else-is_next}
-
-pub loop-x-preserved : goal.loop-x-preserved
-loop-x-preserved c =
-    let first = c.args.first.now in
-    let second = c.args.second.now in
-    let m = c.equal_from-from.result in
-    let i = c.loop-x.x-index in
-    let lowest = c.loop-x.lowest in
-    let x = c.x-item.result in
-    elim c.if-is_next.branch [
-      | then-is_next w ↦
-          subst (LowestSoFar first second m (i + 1)) (sym w.lowest-is) (lowest_moves first second m i lowest x c.loop-x-test.true c.x-item.is c.loop-x.invariant w.if-is_next.ensures)
-      | else-is_next w ↦
-          subst (LowestSoFar first second m (i + 1)) (sym w.lowest-is) (lowest_stays first second m i lowest x c.loop-x-test.true c.x-item.is c.loop-x.invariant w.if-is_next.ensures)
-    ]
 
 pub returns : goal.returns
-returns c = lowest_agreed c.args.first.now c.args.second.now c.equal_from-from.result c.loop-x.x-index c.loop-x.lowest c.loop-x-test.false c.equal_from-from.ensures c.loop-x.invariant
+returns c =
+    let first = c.args.first.now in
+    let second = c.args.second.now in
+    let from = c.equal_from-from.result in
+    agreed_least first second from c.equal_from-from.ensures c.min.result
+    (sym (option_map_id c.min.result)
+    ∙ min_from_yields_List _ _ c.min.ensures.ran
+    (YieldsList-from_map _ (λ x. x.number)
+    (YieldsList-at c.map.ensures.source
+    (YieldsList-from_filter _ (λ x. leb from x.number && is_among second x.number) (YieldsList-from_slice first cc) c.filter-equal.ensures.closure (λ x r q k. search (rules, tests))))
+    c.map.ensures.closure (λ x r q k. search (rules, tests))))

@@ -1,25 +1,21 @@
-use Rattle.std.proofs.Common.{◌≡◌, ◌+◌, max, sym, subst, arith}
-use Rattle.agreement.proofs.Numbers.{EqualSoFar, equal_past, equal_moves, all_seen}
+use Rattle.std.proofs.Common.{◌+◌, sym, ◌∙◌, subst, rules, tests}
+use Rattle.std.specs.List.{list_any}
+use Rattle.std.proofs.lemmas.Iterator.{YieldsList-from_slice, YieldsList-from_map}
+use Rattle.std.proofs.lemmas.Iterator.Adapters.{option_map_id}
+use Rattle.std.proofs.lemmas.Iterator.Consumers.{YieldsList-at, YieldsList-from_filter, max_from_yields_List}
+use Rattle.agreement.specs.Agreement.{EqualFrom, differ_in}
+use Rattle.agreement.proofs.Numbers.{equal_from_greatest}
 use Rattle.agreement.proofs.equal_from.Goals as goal
-use Rattle.agreement.proofs.equal_from.Goals.{then-differs_among, else-differs_among}
-
-pub loop-x-init : goal.loop-x-init
-loop-x-init c = record { equal = tt; unequal = λ n less. absurd (omega arith) }
-
-pub loop-x-preserved : goal.loop-x-preserved
-loop-x-preserved c =
-    let first = c.args.first.now in
-    let second = c.args.second.now in
-    let i = c.loop-x.x-index in
-    let m = c.loop-x.from in
-    let x = c.x-item.result in
-    elim c.if-differs_among.branch [
-      | then-differs_among w ↦
-          let moved : max m (x.number + 1) ≡ c.if-differs_among.from = omega (arith, w.from-is, w.max-from.ensures, w.from.ensures) in
-          subst (EqualSoFar first second (i + 1)) moved (equal_moves first second i m x c.loop-x-test.true c.x-item.is c.loop-x.invariant w.if-differs_among.ensures)
-      | else-differs_among w ↦
-          subst (EqualSoFar first second (i + 1)) (sym w.from-is) (equal_past first second i m x c.loop-x-test.true c.x-item.is c.loop-x.invariant w.if-differs_among.ensures)
-    ]
 
 pub returns : goal.returns
-returns c = (all_seen _ c.args.first.now c.loop-x.x-index c.loop-x-test.false c.loop-x.invariant.equal, c.loop-x.invariant.unequal)
+returns c =
+    let first = c.args.first.now in
+    let second = c.args.second.now in
+    subst (EqualFrom first second) (sym c.unwrap_or.ensures)
+    (equal_from_greatest first second c.max.result
+    (sym (option_map_id c.max.result)
+    ∙ max_from_yields_List _ _ c.max.ensures.ran
+    (YieldsList-from_map _ (λ x. x.number + 1)
+    (YieldsList-at c.map.ensures.source
+    (YieldsList-from_filter _ (λ x. list_any (differ_in x) second) (YieldsList-from_slice first cc) c.filter-unequal.ensures.closure (λ x r q k. search (rules, tests))))
+    c.map.ensures.closure (λ x r q k. search (rules, tests)))))
