@@ -1,16 +1,16 @@
 -- A line of values that has been read up to some field.
-use Rattle.std.proofs.Common.{◌≡◌, ℕ, zero, suc, ◌+◌, ◌<◌, Bool, true, false, cond, ◌&&◌, ◌||◌, eqb, leb, List, [], ◌∷◌, length, get_or, drop, IsErrAnd, Some, None, Ok, Err, Option, Result, sym, refl, ap, ◌∙◌, ⊎_elim, add-zero, add-one, arith, length-drop}
+use Rattle.std.proofs.Common.{◌≡◌, ℕ, zero, suc, ◌+◌, ◌-◌, ◌<◌, Bool, true, false, cond, ◌&&◌, ◌||◌, eqb, leb, List, [], ◌∷◌, length, get_or, drop, IsErrAnd, Some, None, Ok, Err, Option, Result, sym, refl, ap, ◌∙◌, subst, ⊎_elim, add-one, arith, length-drop}
 use Rattle.std.specs.List.{slice_get}
-use Rattle.std.specs.Option.{option_or, option_map}
-use Rattle.std.proofs.lemmas.List.{drop_more, drop-drop, get_or-drop}
+use Rattle.std.specs.Option.{option_or, option_map, ok_or}
+use Rattle.std.specs.Result.{MatchResult}
+use Rattle.std.proofs.lemmas.List.{drop_more, drop-drop}
 use Rattle.std.proofs.lemmas.Bool.{eq-eqb, ne_eqb, cond-true, cond-false, cases_eq, or_parts, leb-false}
 use Rattle.config.specs.declared.fault.TextRefusal.{TextRefusal}
 use Rattle.config.specs.declared.fault.TextRefusal.TheVariants.{Form, Range}
 use Rattle.config.specs.declared.fault.TextFault.{TextFault}
-use Rattle.config.specs.declared.fields.Fields.{Fields}
 use Rattle.config.specs.declared.row.Kind.{Kind}
 use Rattle.config.specs.Layout.{Rule, fault, field_at, leftmost, values_wrong, within, kind, row_of, table_line}
-use Rattle.config.specs.Reading.{unless, left, next_field, at_field, Moved, Opened}
+use Rattle.config.specs.Reading.{unless, count_wrong, field_wrong}
 use Rattle.config.specs.Rows.{least_service, most_service}
 use Rattle.config.specs.Text.{Bytes, fields}
 
@@ -23,28 +23,41 @@ pub unless_err : {E V : Type 0} (o : Option E) (v : V) (d : E) → Err d ≡ unl
 unless_err None v d e = let z : ◌≡◌ {A = ℕ} 0 1 = cc in absurd (omega arith)
 unless_err (Some r) v d e = cc
 
--- Of line n, the first k fields keep the first k rules, and f has the others to read.
-pub record Read (n : ℕ) (rules : List Rule) (line : Bytes) (k : ℕ) (f : Fields) : Type 0 where
-  pub rest : left f ≡ drop k (fields line)
-  pub at_line : f.line ≡ n
-  pub count : f.field ≡ k
+-- the exit of a `?` answers what is wrong
+pub exits : {E T : Type 0} (res : Result T E) (o : Option E) (v : T) (e : E) → IsErrAnd res (λ y. y ≡ e) → o ≡ Some e → res ≡ unless o v
+exits (Ok x) o v e by is = absurd by
+exits (Err y) o v e by is = ap Err by ∙ sym (ap (λ x. unless x v) is)
+
+-- `ok_or` answers its refusal
+pub or_refused : {B E : Type 0} (o : Option B) (d e : E) → Err e ≡ ok_or o d → e ≡ d
+or_refused None d e is = cc
+or_refused (Some b) d e is = let z : ◌≡◌ {A = ℕ} 0 1 = cc in absurd (omega arith)
+
+counted : (a b n : ℕ) → cond (eqb a b) None (Some (fault Form n 0)) ≡ None → a ≡ b
+counted a b n e =
+    ⊎_elim
+    (λ (is : a ≡ b). is)
+    (λ other. let z : ◌≡◌ {A = Option TextFault} (Some (fault Form n 0)) None = sym (cond-false _ _ _ (ne_eqb a b other)) ∙ e in let y : ◌≡◌ {A = ℕ} 0 1 = cc in absurd (omega arith))
+    (cases_eq a b)
+
+pub exits_closed : {T V : Type 0} (n : ℕ) (line : Bytes) (u : V) (rules : List Rule) (res : Result T TextFault) (v : T) (e : TextFault) → Err e ≡ unless (count_wrong n (length rules) line) u → IsErrAnd res (λ y. y ≡ e) → res ≡ unless (values_wrong n rules line) v
+unfolding values_wrong
+exits_closed n line u rules res v e closed by = exits res _ v e by (closed_by (eqb (length (fields line)) (length rules)) (unless_err _ u e closed))
+  where
+    closed_by : (b : Bool) → cond b None (Some (fault Form n 0)) ≡ Some e → cond b (leftmost n 1 rules (fields line)) (Some (fault Form n 0)) ≡ Some e
+    closed_by true is = let z : ◌≡◌ {A = ℕ} 0 1 = cc in absurd (omega arith)
+    closed_by false is = is
+
+-- Of line n, which has as many fields as there are rules, the first k keep theirs.
+pub record Read (n : ℕ) (rules : List Rule) (line : Bytes) (k : ℕ) : Type 0 where
   pub long : length (fields line) ≡ length rules
   pub sofar : values_wrong n rules line ≡ leftmost n (suc k) (drop k rules) (drop k (fields line))
 
-pub opened : (n : ℕ) (rules : List Rule) (line : Bytes) (f : Fields) → Opened n line (length rules) (Ok f) → Read n rules line 0 f
+pub opened : {n : ℕ} {line : Bytes} {V : Type 0} (v x : V) (rules : List Rule) → Ok x ≡ unless (count_wrong n (length rules) line) v → Read n rules line 0
 unfolding values_wrong
-opened n rules line f o =
-    record {
-      rest = o.1;
-      at_line = o.2;
-      count = o.3;
-      long = o.0;
-      sofar = rw (eq-eqb (length (fields line)) (length rules) o.0) refl;
-    }
-
-pub not_opened : (n : ℕ) (rules : List Rule) (line : Bytes) (e : TextFault) → Opened n line (length rules) (Err e) → values_wrong n rules line ≡ Some e
-unfolding values_wrong
-not_opened n rules line e o = rw (ne_eqb (length (fields line)) (length rules) o.0) (ap Some (sym o.1))
+opened {n} {line} v x rules told =
+    let long = counted (length (fields line)) (length rules) n (unless_ok _ v x told).0 in
+    record { long = long; sofar = rw (eq-eqb (length (fields line)) (length rules) long) refl }
 
 pub or_other_none : {X : Type 0} (o p : Option X) → option_or o p ≡ None → (o ≡ None) × (p ≡ None)
 or_other_none None p e = (refl, e)
@@ -54,75 +67,49 @@ mapped_none : {X Y : Type 0} (g : X → Y) (o : Option X) → option_map g o ≡
 mapped_none g None e = refl
 mapped_none g (Some x) e = let z : ◌≡◌ {A = ℕ} 0 1 = cc in absurd (omega arith)
 
-module _ (n : ℕ) (rules : List Rule) (line : Bytes) (k : ℕ) (f : Fields) (r : Rule) (rs : List Rule) (rule : drop k rules ≡ r ∷ rs) (read : Read n rules line k f) where
-  some_left : k < length (fields line)
-  some_left = omega (arith, read.long, ap length rule, length-drop k rules)
+-- what is wrong with the field at index k, which is field k + 1
+abbrev pub wrong_here : ℕ → Bytes → ℕ → Rule → Option TextFault
+wrong_here n line k r = option_map (λ refusal. fault refusal n (suc k)) (r (field_at line k))
 
-  pub next_is : next_field f ≡ field_at line k
-  next_is = ap (λ fs. get_or fs 0 []) read.rest ∙ get_or-drop k (fields line) 0 [] ∙ ap (λ i. get_or (fields line) i []) (add-zero k)
-
-  now_field : at_field f r ≡ option_map (λ refusal. fault refusal n (suc k)) (r (field_at line k))
-  now_field =
-      let line_is : f.line ≡ n = read.at_line in
-      let field_is : f.field + 1 ≡ suc k = omega (arith, read.count) in
-      λ i. option_map (λ refusal. fault refusal (line_is i) (field_is i)) (r (next_is i))
-
-  here : values_wrong n rules line ≡ option_or (at_field f r) (leftmost n (suc (suc k)) rs (drop (k + 1) (fields line)))
+module _ {n : ℕ} {rules : List Rule} {line : Bytes} {k : ℕ} (read : Read n rules line k) (r : Rule) (rs : List Rule) (rule : drop k rules ≡ r ∷ rs) where
+  here : values_wrong n rules line ≡ option_or (wrong_here n line k r) (leftmost n (suc (suc k)) rs (drop (k + 1) (fields line)))
   here =
-      read.sofar
-      ∙ (λ i. leftmost n (suc k) (rule i) (drop_more (fields line) k [] some_left i))
-      ∙ ap (λ o. option_or o (leftmost n (suc (suc k)) rs (drop (k + 1) (fields line)))) (sym now_field)
+      let some_left : k < length (fields line) = omega (arith, read.long, ap length rule, length-drop k rules) in
+      read.sofar ∙ (λ i. leftmost n (suc k) (rule i) (drop_more (fields line) k [] some_left i))
 
-  pub wrong_field : (e : TextFault) → at_field f r ≡ Some e → values_wrong n rules line ≡ Some e
-  wrong_field e wrong = here ∙ ap (λ o. option_or o (leftmost n (suc (suc k)) rs (drop (k + 1) (fields line)))) wrong
-
-  pub right_field : at_field f r ≡ None → (g : Fields) → left g ≡ drop 1 (left f) → g.line ≡ f.line → g.field ≡ f.field + 1 → Read n rules line (k + 1) g
-  right_field right g rest at_line count =
+  -- one more field is right
+  pub more : {V : Type 0} (v x : V) → Ok x ≡ unless (wrong_here n line k r) v → Read n rules line (k + 1)
+  more v x told =
+      let one_more : suc k ≡ k + 1 = sym (add-one k) in
+      let behind : rs ≡ drop (k + 1) rules = sym (sym (drop-drop 1 k rules) ∙ ap (drop 1) rule) in
       record {
-        rest = rest ∙ ap (drop 1) read.rest ∙ drop-drop 1 k (fields line);
-        at_line = at_line ∙ read.at_line;
-        count = omega (arith, count, read.count);
         long = read.long;
         sofar =
             here
-            ∙ ap (λ o. option_or o (leftmost n (suc (suc k)) rs (drop (k + 1) (fields line)))) right
+            ∙ ap (λ o. option_or o (leftmost n (suc (suc k)) rs (drop (k + 1) (fields line)))) (unless_ok (wrong_here n line k r) v x told).0
             ∙ (λ i. leftmost n (suc (one_more i)) (behind i) (drop (k + 1) (fields line)));
       }
-    where
-      one_more : suc k ≡ k + 1
-      one_more = sym (add-one k)
 
-      behind : rs ≡ drop (k + 1) rules
-      behind = sym (sym (drop-drop 1 k rules) ∙ ap (drop 1) rule)
+  -- the exit at a field that is wrong
+  pub exits_wrong : {V T : Type 0} (u : V) (res : Result T TextFault) (v : T) (e : TextFault) → Err e ≡ unless (wrong_here n line k r) u → IsErrAnd res (λ y. y ≡ e) → res ≡ unless (values_wrong n rules line) v
+  exits_wrong u res v e wrong by =
+      exits res _ v e by
+      (here ∙ ap (λ o. option_or o (leftmost n (suc (suc k)) rs (drop (k + 1) (fields line)))) (unless_err (wrong_here n line k r) u e wrong))
 
-  -- a field that is right keeps its rule
-  pub kept : at_field f r ≡ None → r (field_at line k) ≡ None
-  kept right = mapped_none _ (r (field_at line k)) (sym now_field ∙ right)
-
--- one more field is right
-pub more : {n : ℕ} {rules : List Rule} {line : Bytes} {k : ℕ} {f g : Fields} → Read n rules line k f → (r : Rule) (rs : List Rule) → drop k rules ≡ r ∷ rs → {V : Type 0} (v x : V) → Ok x ≡ unless (at_field f r) v → Moved f g → Read n rules line (k + 1) g
-more read r rs rule v x told moved =
-    right_field _ _ _ _ _ r rs rule read (unless_ok (at_field _ r) v x told).0 _ moved.rest moved.same_line moved.next
-
--- the exit of a `?` answers what is wrong
-pub exits : {T : Type 0} (res : Result T TextFault) (o : Option TextFault) (v : T) (e : TextFault) → IsErrAnd res (λ y. y ≡ e) → o ≡ Some e → res ≡ unless o v
-exits (Ok x) o v e by is = absurd by
-exits (Err y) o v e by is = ap Err by ∙ sym (ap (λ x. unless x v) is)
-
-pub exits_closed : {T : Type 0} (n : ℕ) (rules : List Rule) (line : Bytes) (res : Result T TextFault) (v : T) (e : TextFault) → Opened n line (length rules) (Err e) → IsErrAnd res (λ y. y ≡ e) → res ≡ unless (values_wrong n rules line) v
-exits_closed n rules line res v e closed by = exits res _ v e by (not_opened n rules line e closed)
-
-pub exits_wrong : {n : ℕ} {rules : List Rule} {line : Bytes} {k : ℕ} {f : Fields} → Read n rules line k f → (r : Rule) (rs : List Rule) → drop k rules ≡ r ∷ rs → {V T : Type 0} (u : V) (res : Result T TextFault) (v : T) (e : TextFault) → Err e ≡ unless (at_field f r) u → IsErrAnd res (λ y. y ≡ e) → res ≡ unless (values_wrong n rules line) v
-exits_wrong read r rs rule u res v e wrong by =
-    exits res _ v e by (wrong_field _ _ _ _ _ r rs rule read e (unless_err (at_field _ r) u e wrong))
-
--- the value that was read is the field's
-pub value_is : {n : ℕ} {rules : List Rule} {line : Bytes} {k : ℕ} {f : Fields} → Read n rules line k f → (r : Rule) (rs : List Rule) → drop k rules ≡ r ∷ rs → {V : Type 0} (of : Bytes → V) (x : V) → Ok x ≡ unless (at_field f r) (of (next_field f)) → x ≡ of (field_at line k)
-value_is {n} {rules} {line} {k} {f} read r rs rule of x told =
-    (unless_ok (at_field f r) (of (next_field f)) x told).1 ∙ ap of (next_is n rules line k f r rs rule read)
+-- what a field answers, from what is read of its bytes
+pub field_answer : {V : Type 0} (n k : ℕ) (line : Bytes) (rule : Rule) (of : Bytes → V) (field : Bytes) (read : Result V TextRefusal) (res : Result V TextFault) (post : TextRefusal → TextFault → Type 0) → field ≡ field_at line (k - 1) → read ≡ unless (rule field) (of field) → MatchResult read (λ x. res ≡ Ok x) (λ e. IsErrAnd res (post e)) → ((e : TextRefusal) (d : TextFault) → post e d → d ≡ fault e n k) → res ≡ unless (field_wrong n k line rule) (of (field_at line (k - 1)))
+field_answer {V} n k line rule of field read res post is told cases handed =
+    subst (λ at. res ≡ unless (option_map (λ refusal. fault refusal n k) (rule at)) (of at)) is (by (rule field) read res told cases)
+  where
+    by : (o : Option TextRefusal) (r : Result V TextRefusal) (s : Result V TextFault) → r ≡ unless o (of field) → MatchResult r (λ x. s ≡ Ok x) (λ e. IsErrAnd s (post e)) → s ≡ unless (option_map (λ refusal. fault refusal n k) o) (of field)
+    by None (Ok x) s e is = is ∙ ap Ok (let same : x ≡ of field = cc in same)
+    by None (Err d) s e is = let z : ◌≡◌ {A = ℕ} 0 1 = cc in absurd (omega arith)
+    by (Some y) (Ok x) s e is = let z : ◌≡◌ {A = ℕ} 0 1 = cc in absurd (omega arith)
+    by (Some y) (Err x) (Ok z) e is = absurd is
+    by (Some y) (Err x) (Err d) e is = let same : x ≡ y = cc in ap Err (handed x d is) ∙ ap (λ r. Err (fault r n k)) same
 
 -- all fields are read
-pub all_right : {n : ℕ} {rules : List Rule} {line : Bytes} {k : ℕ} {f : Fields} → Read n rules line k f → drop k rules ≡ [] → values_wrong n rules line ≡ None
+pub all_right : {n : ℕ} {rules : List Rule} {line : Bytes} {k : ℕ} → Read n rules line k → drop k rules ≡ [] → values_wrong n rules line ≡ None
 all_right {n} {rules} {line} {k} read none = read.sofar ∙ ap (λ rs. leftmost n (suc k) rs (drop k (fields line))) none
 
 -- the rule of a row's last field, by the kind that was read

@@ -1,15 +1,13 @@
 -- What the reader's functions answer, between the text's bytes and the layout.
-use Rattle.std.specs.Prelude.{◌≡◌, ℕ, suc, ◌+◌, Bool, cond, ◌&&◌, List, [], length, drop, is_some, Some, None, Ok, Err, Option, Result, ◌==◌, ◌≢◌, nat_lt, slice_index_or}
+use Rattle.std.specs.Prelude.{◌≡◌, ℕ, suc, ◌+◌, ◌-◌, Bool, cond, ◌&&◌, List, [], length, is_some, Some, None, Ok, Err, Option, Result, ◌==◌, nat_lt}
 use Rattle.std.specs.List.{slice_get}
 use Rattle.std.specs.Option.{option_map}
 use Rattle.config.specs.declared.fault.TextFault.{TextFault}
 use Rattle.config.specs.declared.fault.TextRefusal.TheVariants.{Form}
-use Rattle.config.specs.Layout.{Rule, Place, gap, parent, fault, wrong_at, rate_of}
-use Rattle.config.specs.declared.fields.Fields.{Fields}
+use Rattle.config.specs.Layout.{Rule, Place, gap, parent, fault, wrong_at, rate_of, field_at}
 use Rattle.config.specs.declared.line.Line.{Line}
 use Rattle.config.specs.declared.reader.Reader.{Reader}
 use Rattle.config.specs.Text.{Bytes, lines, fields}
-use Rattle.std.specs.Borrow.{Bor}
 
 -- the value, unless something is wrong
 abbrev pub unless : {E V : Type 0} → Option E → V → Result V E
@@ -57,28 +55,10 @@ rate_or_none i o = cond (parents_end i o) None (Some (of_line rate_of o))
 
 -- ## A line, field by field
 
-abbrev pub fields_in : Option (Bor Bytes) → List Bytes
-fields_in None = []
-fields_in (Some rest) = fields rest.now
+-- what is wrong with line n, which should have so many fields
+abbrev pub count_wrong : ℕ → ℕ → Bytes → Option TextFault
+count_wrong n count line = cond (length (fields line) == count) None (Some (fault Form n 0))
 
--- the fields that have not been read
-abbrev pub left : Fields → List Bytes
-left f = fields_in f.rest
-
-abbrev pub next_field : Fields → Bytes
-next_field f = slice_index_or (left f) 0 []
-
--- what is wrong with the next field by a rule, as a fault of its line
-abbrev pub at_field : Fields → Rule → Option TextFault
-at_field f rule = option_map (λ refusal. fault refusal f.line (f.field + 1)) (rule (next_field f))
-
--- one field has been read
-pub record Moved (f g : Fields) : Type 0 where
-  pub rest : left g ≡ drop 1 (left f)
-  pub same_line : g.line ≡ f.line
-  pub next : g.field ≡ f.field + 1
-
--- a line, opened to be read field by field, if it has so many
-abbrev pub Opened : ℕ → Bytes → ℕ → Result Fields TextFault → Type 0
-Opened n line count (Ok f) = (length (fields line) ≡ count) × (left f ≡ fields line) × (f.line ≡ n) × (f.field ≡ 0)
-Opened n line count (Err e) = (length (fields line) ≢ count) × (e ≡ fault Form n 0)
+-- what is wrong with field k of line n, counted from 1, by a rule
+abbrev pub field_wrong : ℕ → ℕ → Bytes → Rule → Option TextFault
+field_wrong n k line rule = option_map (λ refusal. fault refusal n k) (rule (field_at line (k - 1)))

@@ -18,8 +18,8 @@ pub record Setup : Type 0 where
   -- the map
   pub rows : List Row
 
-abbrev pub setup : Config → Setup
-setup c = record { ticks = c.ticks; backlog = c.backlog; copies = c.copies; tsid = c.tsid; rates = vec_items c.rates; rows = vec_items c.rows }
-
 abbrev pub setup_from : Settings → List ℕ → List Row → Setup
 setup_from s rates rows = record { ticks = s.ticks; backlog = s.backlog; copies = s.copies; tsid = s.tsid; rates = rates; rows = rows }
+
+abbrev pub setup : Config → Setup
+setup c = setup_from c.settings (vec_items c.rates) (vec_items c.rows)

@@ -1,6 +1,6 @@
 -- What the check answers to a text: the configuration that it writes, or its first fault.
-use Rattle.std.specs.Prelude.{◌≡◌, ℕ, zero, suc, ◌+◌, Bool, false, cond, ◌&&◌, ◌||◌, List, [], ◌∷◌, length, take, Some, None, Ok, Err, Option, Result, ◌==◌, nat_le, nat_lt}
-use Rattle.std.specs.List.{slice_get}
+use Rattle.std.specs.Prelude.{◌≡◌, ℕ, zero, suc, ◌+◌, Bool, cond, ◌&&◌, ◌||◌, List, length, take, Some, None, Ok, Err, Option, Result, ◌==◌, nat_le, nat_lt}
+use Rattle.std.specs.List.{slice_get, list_any}
 use Rattle.std.specs.Option.{option_or}
 use Rattle.config.specs.declared.fault.TextFault.{TextFault}
 use Rattle.config.specs.declared.fault.ConfigFault.{ConfigFault}
@@ -23,8 +23,7 @@ shares r s =
     || (r.out == s.out || (nat_lt 0 r.service && r.service == s.service))
 
 abbrev pub any_shares : Row → List Row → Bool
-any_shares r [] = false
-any_shares r (s ∷ ss) = shares r s || any_shares r ss
+any_shares r others = list_any (shares r) others
 
 -- row i, by its number, if it names a parent that is not one of so many or shares with a row before it
 abbrev pub clash_of : ℕ → List Row → ℕ → Option Row → Option ℕ

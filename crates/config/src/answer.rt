@@ -62,9 +62,8 @@ fn pack(fault: ConfigFault) -> u32
 }
 
 // What C gets for a text: 0, or the number that tells its refusal, or 4,294,967,295 for want of memory.
-// The crate config_c gives it to C, as `uint32_t dukhsare_check(const uint8_t *text, size_t length)`.
-#[unsafe(no_mangle)]
-pub extern "C" fn dukhsare_check(heap: Global, text: &[u8]) -> u32
+// The crate config_c exports it to C, as `uint32_t dukhsare_check(const uint8_t *text, size_t length)`.
+pub fn dukhsare_check(heap: Global, text: &[u8]) -> u32
     ensures { (result ≡ packed (verdict text.now)) ⊎ (result ≡ no_memory) }
 {
     match check(heap, text) {

@@ -3,7 +3,7 @@ ghost use Rattle.config.specs.Verdict.{Answers};
 
 use crate::clash::find_clash;
 use crate::fault::ConfigFault;
-use crate::reader::steps::{begin, check_length};
+use crate::reader::Reader;
 use crate::table::Config;
 use crate::tables::{read_head, read_parents, read_rows};
 use std::alloc::Global;
@@ -12,8 +12,7 @@ use std::alloc::Global;
 pub fn check(heap: Global, text: &[u8]) -> Result<Config, ConfigFault>
     ensures { Answers text.now result }
 {
-    check_length(text)?;
-    let mut reader = begin(text);
+    let mut reader = Reader::new(text)?;
     let settings = read_head(&mut reader)?;
     let rates = read_parents(heap, &mut reader)?;
     reader.next_line().names(b"parent pid out kind service")?;

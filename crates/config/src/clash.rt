@@ -17,12 +17,7 @@ fn shares(one: &Row, other: &Row) -> bool
 fn shares_any(row: &Row, others: &[Row]) -> bool
     ensures { result ≡ any_shares row.now others.now }
 {
-    for other in others {
-        if shares(row, other) {
-            return true;
-        }
-    }
-    false
+    others.iter().any(|other| shares(row, other))
 }
 
 // The first row that names a parent which is not one of so many, or shares with a row before it.

@@ -1,6 +1,5 @@
 // Where a text is cut: at a separator byte.
 ghost use Rattle.std.specs.Prelude.{◌≡◌, ℕ, ◌+◌, ◌<◌, ◌≤◌, length, drop, ◌≢◌, slice_index};
-ghost use Rattle.config.specs.Text.{fields};
 ghost use Rattle.std.specs.Str.{bytes_eq};
 
 // The index of the first separator, or the length where there is none.
@@ -9,36 +8,20 @@ pub fn find(bytes: &[u8], separator: u8) -> usize
     ensures before { (k : ℕ) → k < result → slice_index bytes.now k ≢ separator }
     ensures found { result < length bytes.now → slice_index bytes.now result ≡ separator }
 {
-    for (i, b) in bytes.iter().enumerate() {
-        if *b == separator {
-            return i;
-        }
-    }
-    bytes.len()
+    bytes
+        .iter()
+        .position(|b| *b == separator)
+        .unwrap_or(bytes.len())
 }
 
 // The bytes behind index `end`.
 pub fn after(bytes: &[u8], end: usize) -> &[u8]
     ensures { result.now ≡ drop (end + 1) bytes.now }
 {
-    if end < bytes.len() {
-        &bytes[end + 1..]
-    } else {
-        &bytes[bytes.len()..]
+    match bytes.get(end..) {
+        Some([_, behind @ ..]) => behind,
+        _ => &[],
     }
-}
-
-// How many fields a line has.
-pub(crate) fn count_fields(line: &[u8]) -> usize
-    ensures { result ≡ length (fields line.now) }
-{
-    let mut spaces: usize = 0;
-    for b in line {
-        if *b == b' ' {
-            spaces += 1;
-        }
-    }
-    spaces + 1
 }
 
 // Whether two texts are the same bytes.

@@ -1,13 +1,11 @@
-// A line of values, read field by field.
+// A line of values, read by its fields.
 pub mod steps;
 
-// The fields of a line that have not been read.
-#[derive(Drop)]
+// The fields of a line.
+#[derive(Clone, Copy)]
 pub struct Fields<'a> {
-    // the bytes from the next field on, if there is one
-    rest: Option<&'a [u8]>,
     // the line's number, from 1
     line: u32,
-    // how many fields have been read
-    field: u32,
+    // its bytes without the line feed
+    bytes: &'a [u8],
 }

@@ -33,14 +33,10 @@ pub(crate) fn number_within(field: &[u8], low: u64, high: u64) -> Result<u64, Te
     ensures value { result ≡ unless (within low high field.now) (written field.now) }
     ensures range { IfOk result (Between low high) }
 {
-    match number(field) {
-        None => Err(TextRefusal::Form),
-        Some(n) => {
-            if low <= n && n <= high {
-                Ok(n)
-            } else {
-                Err(TextRefusal::Range)
-            }
-        }
+    let n = number(field).ok_or(TextRefusal::Form)?;
+    if low <= n && n <= high {
+        Ok(n)
+    } else {
+        Err(TextRefusal::Range)
     }
 }

@@ -1,3 +1,10 @@
+// The rows of the map, and the settings.
+ghost use Rattle.std.specs.Prelude.{◌≡◌};
+ghost use Rattle.config.specs.Layout.{kind_word, kind};
+ghost use Rattle.config.specs.Reading.{unless};
+
+use crate::fault::TextRefusal;
+
 // What becomes of the packets of a map row.
 #[derive(Clone, Copy, Debug, PartialEq, Eq)]
 pub enum Kind {
@@ -5,6 +12,22 @@ pub enum Kind {
     Pass,
     // the packet holds a PMT section, which is patched
     Pmt,
+}
+
+// The kind that a field of the text names.
+impl TryFrom<&[u8]> for Kind {
+    type Error = TextRefusal;
+
+    ghost try_from_gives = { λ field r. r ≡ unless (kind_word field.now) (kind field.now) };
+
+    #[tactic(auto, unfolding(crate::specs::Layout::kind_word, crate::specs::Layout::kind))]
+    fn try_from(field: &[u8]) -> Result<Self, TextRefusal> {
+        match field {
+            b"pass" => Ok(Kind::Pass),
+            b"pmt" => Ok(Kind::Pmt),
+            _ => Err(TextRefusal::Form),
+        }
+    }
 }
 
 // A map row: packets of one parent that have the PID `pid` leave with the PID `out`.

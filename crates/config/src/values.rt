@@ -5,54 +5,52 @@ ghost use Rattle.config.specs.Reading.{unless};
 ghost use Rattle.config.specs.Rows.{least_service, most_service};
 
 use crate::fault::TextFault;
-use crate::fields::steps::fields_of;
+use crate::fields::Fields;
 use crate::row::{Kind, Row, Settings};
 
-// The settings that line `line` writes.
-pub(crate) fn read_settings(line: u32, bytes: &[u8]) -> Result<Settings, TextFault>
-    ensures { result ≡ unless (values_wrong line settings_rules bytes.now) (settings_of bytes.now) }
-{
-    let mut fields = fields_of(line, bytes, 4)?;
-    let ticks = fields.number(10_000, 40_000_000)? as u32;
-    let backlog = fields.number(1, 1_024)? as u32;
-    let copies = fields.number(1, 16)? as u32;
-    let tsid = fields.number(0, 65_535)? as u16;
-    Ok(Settings {
-        ticks,
-        backlog,
-        copies,
-        tsid,
-    })
-}
+impl Fields<'_> {
+    // The settings that the line writes.
+    pub(crate) fn settings(self) -> Result<Settings, TextFault>
+        ensures { result ≡ unless (values_wrong self.entry.line settings_rules self.entry.bytes.now) (settings_of self.entry.bytes.now) }
+    {
+        self.should_be(4)?;
+        Ok(Settings {
+            ticks: self.number(1, 10_000, 40_000_000)? as u32,
+            backlog: self.number(2, 1, 1_024)? as u32,
+            copies: self.number(3, 1, 16)? as u32,
+            tsid: self.number(4, 0, 65_535)? as u16,
+        })
+    }
 
-// The rate that line `line` writes, which is that of parent `parent`.
-pub(crate) fn read_rate(line: u32, bytes: &[u8], parent: u64) -> Result<u32, TextFault>
-    ensures { result ≡ unless (values_wrong line (parent_rules parent) bytes.now) (rate_of bytes.now) }
-{
-    let mut fields = fields_of(line, bytes, 2)?;
-    let _number = fields.number(parent, parent)?;
-    let rate = fields.number(100_000, 100_000_000)? as u32;
-    Ok(rate)
-}
+    // The rate that the line writes, which is that of parent `parent`.
+    pub(crate) fn rate(self, parent: u64) -> Result<u32, TextFault>
+        ensures { result ≡ unless (values_wrong self.entry.line (parent_rules parent) self.entry.bytes.now) (rate_of self.entry.bytes.now) }
+    {
+        self.should_be(2)?;
+        self.number(1, parent, parent)?;
+        let rate = self.number(2, 100_000, 100_000_000)?;
+        Ok(rate as u32)
+    }
 
-// The map row that line `line` writes.
-pub(crate) fn read_row(line: u32, bytes: &[u8]) -> Result<Row, TextFault>
-    ensures { result ≡ unless (values_wrong line (row_rules (row_of bytes.now).kind) bytes.now) (row_of bytes.now) }
-{
-    let mut fields = fields_of(line, bytes, 5)?;
-    let parent = fields.number(0, 3)? as u8;
-    let pid = fields.number(0, 8_190)? as u16;
-    let out = fields.number(32, 8_190)? as u16;
-    let kind = fields.kind()?;
-    let (least, most) = services(kind);
-    let service = fields.number(least, most)? as u16;
-    Ok(Row {
-        parent,
-        pid,
-        out,
-        kind,
-        service,
-    })
+    // The map row that the line writes.
+    pub(crate) fn row(self) -> Result<Row, TextFault>
+        ensures { result ≡ unless (values_wrong self.entry.line (row_rules (row_of self.entry.bytes.now).kind) self.entry.bytes.now) (row_of self.entry.bytes.now) }
+    {
+        self.should_be(5)?;
+        let parent = self.number(1, 0, 3)? as u8;
+        let pid = self.number(2, 0, 8_190)? as u16;
+        let out = self.number(3, 32, 8_190)? as u16;
+        let kind = self.kind(4)?;
+        let (least, most) = services(kind);
+        let service = self.number(5, least, most)? as u16;
+        Ok(Row {
+            parent,
+            pid,
+            out,
+            kind,
+            service,
+        })
+    }
 }
 
 // The least and the greatest program number that a row of a kind may have.

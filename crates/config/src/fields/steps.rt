@@ -1,96 +1,71 @@
-ghost use Rattle.std.specs.Prelude.{◌≡◌, ◌<◌, IfOk};
-ghost use Rattle.config.specs.Layout.{within, kind_word, kind as kind_of};
-ghost use Rattle.config.specs.Reading.{next_field, at_field, Moved, Opened, unless};
+ghost use Rattle.std.specs.Prelude.{◌≡◌, ◌-◌, length, IfOk};
+ghost use Rattle.config.specs.Layout.{within, kind_word, kind as kind_of, field_at};
+ghost use Rattle.config.specs.Reading.{count_wrong, field_wrong, unless};
 ghost use Rattle.config.specs.Rows.{Between};
-ghost use Rattle.config.specs.Text.{written};
+ghost use Rattle.config.specs.Text.{fields, written};
 
-use crate::cuts::{after, count_fields, find, same};
 use crate::fault::{TextFault, TextRefusal};
 use crate::fields::Fields;
 use crate::number::number_within;
 use crate::row::Kind;
 
-// The kind that a field names.
-fn read_kind(field: &[u8]) -> Result<Kind, TextRefusal>
-    ensures { result ≡ unless (kind_word field.now) (kind_of field.now) }
-{
-    if same(field, b"pass") {
-        Ok(Kind::Pass)
-    } else if same(field, b"pmt") {
-        Ok(Kind::Pmt)
-    } else {
-        Err(TextRefusal::Form)
-    }
-}
-
 impl<'a> Fields<'a> {
-    // The next field, or an empty one where none is left.
-    fn next(&mut self) -> &'a [u8]
-        requires { self.old.field < 5 }
-        ensures value { result.now ≡ next_field self.old }
-        ensures moved { Moved self.old self.new }
+    // The fields of line `line`.
+    pub(crate) fn new(line: u32, bytes: &'a [u8]) -> Fields<'a>
+        ensures { result ≡ record { line = line; bytes = bytes.entry } }
     {
-        self.field += 1;
-        let Some(bytes) = self.rest else {
-            return &[];
-        };
-        let end = find(bytes, b' ');
-        self.rest = if end < bytes.len() {
-            Some(after(bytes, end))
-        } else {
-            None
-        };
-        &bytes[0..end]
+        Fields { line, bytes }
     }
 
-    // The next field as a number from `low` to `high`.
-    pub(crate) fn number(&mut self, low: u64, high: u64) -> Result<u64, TextFault>
-        requires { self.old.field < 5 }
-        ensures value { result ≡ unless (at_field self.old (within low high)) (written (next_field self.old)) }
+    // How many there are.
+    fn count(self) -> usize
+        ensures { result ≡ length (fields self.entry.bytes.now) }
+    {
+        self.bytes.split(|b| *b == b' ').count()
+    }
+
+    // Whether there are so many.
+    pub(crate) fn should_be(self, count: usize) -> Result<(), TextFault>
+        ensures { result ≡ unless (count_wrong self.entry.line count self.entry.bytes.now) tt }
+    {
+        if self.count() != count {
+            return Err(TextFault {
+                refusal: TextRefusal::Form,
+                line: self.line,
+                field: 0,
+            });
+        }
+        Ok(())
+    }
+
+    // Field `field`, from 1, or an empty one where there are fewer.
+    fn field(self, field: u32) -> &'a [u8]
+        ensures { result.now ≡ field_at self.entry.bytes.now (field - 1) }
+    {
+        let before = field.saturating_sub(1) as usize;
+        self.bytes.split(|b| *b == b' ').nth(before).unwrap_or(&[])
+    }
+
+    // Field `field` as a number from `low` to `high`.
+    pub(crate) fn number(self, field: u32, low: u64, high: u64) -> Result<u64, TextFault>
+        ensures value { result ≡ unless (field_wrong self.entry.line field self.entry.bytes.now (within low high)) (written (field_at self.entry.bytes.now (field - 1))) }
         ensures range { IfOk result (Between low high) }
-        ensures moved { Moved self.old self.new }
     {
-        match number_within(self.next(), low, high) {
-            Ok(n) => Ok(n),
-            Err(refusal) => Err(TextFault {
-                refusal,
-                line: self.line,
-                field: self.field,
-            }),
-        }
+        number_within(self.field(field), low, high).map_err(|refusal| TextFault {
+            refusal,
+            line: self.line,
+            field,
+        })
     }
 
-    // The next field as a kind.
-    pub(crate) fn kind(&mut self) -> Result<Kind, TextFault>
-        requires { self.old.field < 5 }
-        ensures value { result ≡ unless (at_field self.old kind_word) (kind_of (next_field self.old)) }
-        ensures moved { Moved self.old self.new }
+    // Field `field` as a kind.
+    pub(crate) fn kind(self, field: u32) -> Result<Kind, TextFault>
+        ensures { result ≡ unless (field_wrong self.entry.line field self.entry.bytes.now kind_word) (kind_of (field_at self.entry.bytes.now (field - 1))) }
     {
-        match read_kind(self.next()) {
-            Ok(kind) => Ok(kind),
-            Err(refusal) => Err(TextFault {
-                refusal,
-                line: self.line,
-                field: self.field,
-            }),
-        }
+        Kind::try_from(self.field(field)).map_err(|refusal| TextFault {
+            refusal,
+            line: self.line,
+            field,
+        })
     }
-}
-
-// The fields of line `line`, which should be so many.
-pub(crate) fn fields_of(line: u32, bytes: &[u8], count: usize) -> Result<Fields<'_>, TextFault>
-    ensures { Opened line bytes.now count result }
-{
-    if count_fields(bytes) != count {
-        return Err(TextFault {
-            refusal: TextRefusal::Form,
-            line,
-            field: 0,
-        });
-    }
-    Ok(Fields {
-        rest: Some(bytes),
-        line,
-        field: 0,
-    })
 }

@@ -1,6 +1,6 @@
-ghost use Rattle.std.specs.Prelude.{◌≡◌, ◌≤◌, length};
+ghost use Rattle.std.specs.Prelude.{◌≡◌, None, Some, IfOk, IfErr};
 ghost use Rattle.config.specs.Layout.{too_long};
-ghost use Rattle.config.specs.Reading.{Next, unless};
+ghost use Rattle.config.specs.Reading.{Next};
 
 use crate::cuts::{after, find};
 use crate::fault::{TextFault, TextRefusal};
@@ -8,6 +8,25 @@ use crate::line::Line;
 use crate::reader::Reader;
 
 impl<'a> Reader<'a> {
+    // A reader at the beginning of a text of at most 16,384 bytes.
+    pub(crate) fn new(text: &'a [u8]) -> Result<Reader<'a>, TextFault>
+        ensures ok { IfOk result (λ r. (too_long text.now ≡ None) × (r.text.now ≡ text.now) × (r.line ≡ 0)) }
+        ensures err { IfErr result (λ e. too_long text.now ≡ Some e) }
+    {
+        if text.len() > 16_384 {
+            return Err(TextFault {
+                refusal: TextRefusal::Names,
+                line: 0,
+                field: 0,
+            });
+        }
+        Ok(Reader {
+            text,
+            rest: text,
+            line: 0,
+        })
+    }
+
     // The next line.
     pub(crate) fn next_line(&mut self) -> Line<'a>
         ensures { Next self.old result self.new }
@@ -21,32 +40,5 @@ impl<'a> Reader<'a> {
         self.rest = after(rest, end);
         self.line = number;
         Line::new(number, Some(&rest[0..end]))
-    }
-}
-
-// Whether a text has at most 16,384 bytes.
-pub(crate) fn check_length(text: &[u8]) -> Result<(), TextFault>
-    ensures { result ≡ unless (too_long text.now) tt }
-{
-    if text.len() > 16_384 {
-        return Err(TextFault {
-            refusal: TextRefusal::Names,
-            line: 0,
-            field: 0,
-        });
-    }
-    Ok(())
-}
-
-// A reader at the beginning of a text.
-pub(crate) fn begin(text: &[u8]) -> Reader<'_>
-    requires { length text.now ≤ 16384 }
-    ensures text { result.text.now ≡ text.now }
-    ensures line { result.line ≡ 0 }
-{
-    Reader {
-        text,
-        rest: text,
-        line: 0,
     }
 }

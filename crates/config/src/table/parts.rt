@@ -16,17 +16,8 @@ impl Config {
         requires none_shares { NoneShares rows.items }
         ensures { setup result ≡ setup_from settings rates.items rows.items }
     {
-        let Settings {
-            ticks,
-            backlog,
-            copies,
-            tsid,
-        } = settings;
         Config {
-            ticks,
-            backlog,
-            copies,
-            tsid,
+            settings,
             rates,
             rows,
         }
@@ -36,28 +27,28 @@ impl Config {
     pub fn ticks(&self) -> u32
         ensures { result ≡ (setup self.now).ticks }
     {
-        self.ticks
+        self.settings.ticks
     }
 
     // How many packets the backlog holds.
     pub fn backlog(&self) -> u32
         ensures { result ≡ (setup self.now).backlog }
     {
-        self.backlog
+        self.settings.backlog
     }
 
     // PAT copies in a frame.
     pub fn copies(&self) -> u32
         ensures { result ≡ (setup self.now).copies }
     {
-        self.copies
+        self.settings.copies
     }
 
     // The transport_stream_id of the multiplex.
     pub fn tsid(&self) -> u16
         ensures { result ≡ (setup self.now).tsid }
     {
-        self.tsid
+        self.settings.tsid
     }
 
     // The parents' bits per second, parent 0 first.
