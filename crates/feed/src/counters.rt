@@ -1,13 +1,13 @@
 // What is counted in a run. A counter stops at the largest number of 64 bits.
 ghost use Rattle.std.specs.Prelude.{◌≡◌, ◌+◌, Some};
 ghost use Rattle.feed.specs.Times.{capped};
-ghost use Rattle.feed.specs.Counts.{no_refusals, no_hears, no_frames, refused_by, heard_by, framed_by, losses, drops_in, refusals_line, hears_line, frames_line, counters_line};
+ghost use Rattle.feed.specs.Counts.{no_hears, no_frames, refused_by, heard_by, framed_by, losses, drops_in, refusals_line, hears_line, frames_line, counters_line};
 
 use adapter::answer::{Framed, Heard, Refusal};
 use std::fmt;
 
 // Packets refused: as no good packet (7), for its time (8), for want of room (9).
-#[derive(Clone, Copy)]
+#[derive(Clone, Copy, Default)]
 pub struct Refusals {
     bad: u64,
     untimely: u64,
@@ -15,17 +15,6 @@ pub struct Refusals {
 }
 
 impl Refusals {
-    // None yet.
-    fn new() -> Refusals
-        ensures { result ≡ no_refusals }
-    {
-        Refusals {
-            bad: 0,
-            untimely: 0,
-            full: 0,
-        }
-    }
-
     fn count(&mut self, refusal: Refusal)
         ensures { self.new ≡ refused_by refusal self.old }
     {
@@ -62,7 +51,7 @@ impl fmt::Display for Refusals {
 }
 
 // Packets by what became of them.
-#[derive(Clone, Copy)]
+#[derive(Clone, Copy, Default)]
 pub struct Hears {
     heard: u64,
     passed: u64,
@@ -72,19 +61,6 @@ pub struct Hears {
 }
 
 impl Hears {
-    // None yet.
-    fn new() -> Hears
-        ensures { result ≡ no_hears }
-    {
-        Hears {
-            heard: 0,
-            passed: 0,
-            unpatchable: 0,
-            held: 0,
-            refused: Refusals::new(),
-        }
-    }
-
     fn count(&mut self, answer: Result<Heard, Refusal>)
         ensures { self.new ≡ heard_by answer self.old }
     {
@@ -117,7 +93,7 @@ impl fmt::Display for Hears {
 }
 
 // Frames by what became of them, and the packets in them.
-#[derive(Clone, Copy)]
+#[derive(Clone, Copy, Default)]
 pub struct Frames {
     skipped: u64,
     followed: u64,
@@ -128,20 +104,6 @@ pub struct Frames {
 }
 
 impl Frames {
-    // None yet.
-    fn new() -> Frames
-        ensures { result ≡ no_frames }
-    {
-        Frames {
-            skipped: 0,
-            followed: 0,
-            added: 0,
-            put: 0,
-            stuffing: 0,
-            dropped: 0,
-        }
-    }
-
     fn count(&mut self, answer: Framed, put: u64, stuffing: u64)
         ensures { self.new ≡ framed_by answer put stuffing self.old }
     {
@@ -176,7 +138,7 @@ impl fmt::Display for Frames {
 }
 
 // All that is counted.
-#[derive(Clone, Copy)]
+#[derive(Clone, Copy, Default)]
 pub struct Counters {
     hears: Hears,
     frames: Frames,
@@ -187,10 +149,7 @@ impl Counters {
     pub fn new() -> Counters
         ensures { result ≡ record { hears = no_hears; frames = no_frames } }
     {
-        Counters {
-            hears: Hears::new(),
-            frames: Frames::new(),
-        }
+        Counters::default()
     }
 
     // One packet more, and what the adapter answered to it.
@@ -218,7 +177,8 @@ impl fmt::Display for Counters {
     }
 }
 
-// Adds to a counter, which stops at the largest number.
+// Adds to a counter, which stops at the largest number. With a type of its own for that, as `Saturating<u64>`, the
+// definitions would have to take each number out of its counter, so that this is the plainer form.
 fn add(counter: &mut u64, more: u64)
     ensures { counter.new ≡ capped (counter.old + more) }
 {
@@ -231,7 +191,6 @@ fn drops_in(answer: Framed) -> u64
 {
     match answer {
         Framed::Skipped(_) => 0,
-        Framed::Followed(_, drops) => u64::from(drops),
-        Framed::Added(_, drops) => u64::from(drops),
+        Framed::Followed(_, drops) | Framed::Added(_, drops) => u64::from(drops),
     }
 }

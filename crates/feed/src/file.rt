@@ -17,6 +17,7 @@ impl FileKind {
     pub fn of(head: &[u8]) -> Option<FileKind>
         ensures { result ≡ kind_of head.now }
     {
+        // Two tests in their order: of a `find` over a list of the two kinds the check does not see which one it found.
         if FileKind::Plain.fits(head) {
             Some(FileKind::Plain)
         } else if FileKind::Timed.fits(head) {
@@ -58,14 +59,14 @@ impl FileKind {
 fn stands(head: &[u8], at: usize) -> bool
     ensures { result ≡ stands_at head.now at }
 {
-    at < head.len() && head[at] == 0x47
+    head.get(at).is_some_and(|byte| *byte == 0x47)
 }
 
 // Whether a sync byte stands at this place, or the bytes end before it.
 fn may_stand(head: &[u8], at: usize) -> bool
     ensures { result ≡ may_stand head.now at }
 {
-    at >= head.len() || head[at] == 0x47
+    head.get(at).is_none_or(|byte| *byte == 0x47)
 }
 
 // The stamp of a timed piece: the low 30 bits of its first four bytes.
@@ -75,7 +76,5 @@ pub fn stamp_of(piece: &[u8]) -> Option<u32>
     let [a, b, c, d, ..] = piece else {
         return None;
     };
-    let high = u32::from(*a % 64) * 256 + u32::from(*b);
-    let low = u32::from(*c) * 256 + u32::from(*d);
-    Some(high * 65_536 + low)
+    Some(u32::from_be_bytes([*a, *b, *c, *d]) % (1 << 30))
 }

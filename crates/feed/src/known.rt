@@ -22,11 +22,9 @@ impl Known {
         ensures value { result ≡ taken rate known time }
         ensures rule { KeptByRule rate known time result }
     {
-        match (known, time) {
-            (None, None) => None,
-            (None, Some(at)) => Some(anchored(at, at)),
-            (Some(known), Some(at)) => Some(anchored(at, known.from)),
-            (Some(known), None) => Some(known.counted(rate)),
+        match time {
+            Some(at) => Some(anchored(at, known.map_or(at, |known| known.from))),
+            None => known.map(|known| known.counted(rate)),
         }
     }
 
@@ -36,10 +34,9 @@ impl Known {
     {
         let count = self.count.saturating_add(1);
         Known {
-            anchor: self.anchor,
             count,
-            from: self.from,
             heard_to: self.anchor.saturating_add(delay(rate, count)),
+            ..self
         }
     }
 }

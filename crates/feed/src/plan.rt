@@ -22,16 +22,11 @@ impl Plan {
     pub fn frame(&self, n: u64) -> Option<Frame>
         ensures { result ≡ frame_of self.now n }
     {
-        if n > u64::from(u32::MAX) {
-            return None;
-        }
-        let start = u128::from(self.start) + u128::from(n) * u128::from(self.ticks);
-        if start > u128::from(LATEST) {
-            return None;
-        }
-        Some(Frame {
-            number: n as u32,
-            start: start as u64,
+        let number = u32::try_from(n).ok()?;
+        let start = self.start.checked_add(n * u64::from(self.ticks))?;
+        (start <= LATEST).then_some(Frame {
+            number,
+            start,
             slots: self.slots,
         })
     }

@@ -14,24 +14,15 @@ const STAMPS: u64 = 1 << 30;
 pub(crate) fn delay(rate: u32, count: u64) -> u64
     ensures { result ≡ capped (after rate count) }
 {
-    if rate == 0 {
-        return 0;
-    }
-    let ticks = u128::from(count) * TICK_BITS / u128::from(rate);
-    if ticks > u128::from(u64::MAX) {
-        return u64::MAX;
-    }
-    ticks as u64
+    let ticks = (u128::from(count) * TICK_BITS).checked_div(u128::from(rate));
+    u64::try_from(ticks.unwrap_or(0)).unwrap_or(u64::MAX)
 }
 
 // The time that packet `i` of a plain file is handed with, counted from 0: packet 0 arrives at `first`.
 pub fn handed_with(first: u64, rate: u32, i: u64) -> Option<u64>
     ensures { result ≡ handed_with first rate i }
 {
-    if i % TIMED_EVERY != 0 {
-        return None;
-    }
-    Some(first.saturating_add(delay(rate, i)))
+    (i % TIMED_EVERY == 0).then(|| first.saturating_add(delay(rate, i)))
 }
 
 // The time of a timed file's next packet: the time before and as many ticks as its stamp is further on.

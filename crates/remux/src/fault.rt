@@ -1,116 +1,53 @@
 // What stops a run.
 use crate::options::{Named, UsageFault};
 use adapter::answer::Refusal;
-use std::alloc::{AllocError, AllocFailed};
-use std::{fmt, io};
+use std::alloc::AllocError;
+use std::io;
+use thiserror::Error;
 
 // What is wrong with a file.
-#[derive(Drop)]
+#[derive(Debug, Drop, Error)]
 pub(crate) enum FileFault {
-    Unusable(io::Error),
+    #[error(transparent)]
+    Unusable(#[from] io::Error),
+    #[error("empty")]
     Empty,
+    #[error("neither 188-byte nor 192-byte packets")]
     NeitherKind,
-    // It ends in the middle of the packet that begins at this byte.
+    #[error("ends in the middle of the packet at byte {0}")]
     Cut(u64),
-    // No sync byte stands at this byte, where a packet begins.
+    // No sync byte stands where a packet begins.
+    #[error("sync lost at byte {0}")]
     SyncLost(u64),
 }
 
-impl fmt::Display for FileFault {
-    fn fmt<W: fmt::Write>(&self, f: &mut fmt::Formatter<W>) -> fmt::Result {
-        match self {
-            FileFault::Unusable(error) => write!(f, "{error}"),
-            FileFault::Empty => f.write_str("empty"),
-            FileFault::NeitherKind => f.write_str("neither 188-byte nor 192-byte packets"),
-            FileFault::Cut(offset) => {
-                write!(f, "ends in the middle of the packet at byte {offset}")
-            }
-            FileFault::SyncLost(offset) => write!(f, "sync lost at byte {offset}"),
-        }
-    }
-}
-
-impl From<io::Error> for FileFault {
-    fn from(error: io::Error) -> FileFault {
-        FileFault::Unusable(error)
-    }
-}
-
-impl From<AllocError> for FileFault {
-    fn from(error: AllocError) -> FileFault {
-        FileFault::Unusable(error.into())
-    }
-}
-
-#[derive(Drop)]
+#[derive(Debug, Drop, Error)]
 pub(crate) enum Fault {
-    Usage(UsageFault),
-    // The words of the call could not be read.
+    #[error(transparent)]
+    Usage(#[from] UsageFault),
+    #[error("words of the call: {0}")]
     Words(io::Error),
     // The configuration's file, and the line that tells the refusal.
+    #[error("{0}: {1}")]
     Config(String, String),
-    // So many files for so many parents.
+    #[error("{0} files for {1} parents")]
     Files(usize, usize),
-    // An option for a parent that the configuration does not list.
+    #[error("{0}: the configuration lists no parent {1}")]
     Unlisted(Named, usize),
-    // No frame has so many slots.
+    #[error("a frame cannot have {0} slots")]
     Slots(u64),
-    // The configuration needs more entries.
+    #[error("{0} entries are too few")]
     Entries(u64),
-    // The multiplex would overwrite one of the input files.
+    #[error("{0} is input and output")]
     Overwrites(String),
+    #[error("{0}: {1}")]
     File(String, FileFault),
     // The adapter refused a record or a frame that it should take.
+    #[error(transparent)]
     Refused(Refusal),
-    Printing(io::Error),
-    Memory,
-}
-
-impl fmt::Display for Fault {
-    fn fmt<W: fmt::Write>(&self, f: &mut fmt::Formatter<W>) -> fmt::Result {
-        match self {
-            Fault::Usage(fault) => write!(f, "{fault}"),
-            Fault::Words(error) => write!(f, "words of the call: {error}"),
-            Fault::Config(file, line) => write!(f, "{file}: {line}"),
-            Fault::Files(given, parents) => write!(f, "{given} files for {parents} parents"),
-            Fault::Unlisted(option, parent) => {
-                write!(f, "{option}: the configuration lists no parent {parent}")
-            }
-            Fault::Slots(slots) => write!(f, "a frame cannot have {slots} slots"),
-            Fault::Entries(entries) => write!(f, "{entries} entries are too few"),
-            Fault::Overwrites(file) => write!(f, "{file} is input and output"),
-            Fault::File(file, fault) => write!(f, "{file}: {fault}"),
-            Fault::Refused(refusal) => {
-                let number = refusal.number();
-                write!(f, "refused {number}")
-            }
-            Fault::Printing(error) => write!(f, "standard output: {error}"),
-            Fault::Memory => f.write_str("out of memory"),
-        }
-    }
-}
-
-impl From<UsageFault> for Fault {
-    fn from(fault: UsageFault) -> Fault {
-        Fault::Usage(fault)
-    }
-}
-
-impl From<AllocError> for Fault {
-    fn from(_e: AllocError) -> Fault {
-        Fault::Memory
-    }
-}
-
-impl<T: Drop> From<AllocFailed<T>> for Fault {
-    fn from(_e: AllocFailed<T>) -> Fault {
-        Fault::Memory
-    }
-}
-
-// What is printed could not be printed.
-impl From<io::Error> for Fault {
-    fn from(error: io::Error) -> Fault {
-        Fault::Printing(error)
-    }
+    // What is printed could not be printed.
+    #[error("standard output: {0}")]
+    Printing(#[from] io::Error),
+    #[error("out of memory")]
+    Memory(#[from(alloc)] AllocError),
 }

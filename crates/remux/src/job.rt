@@ -1,12 +1,9 @@
 // A run: records are given ahead, each parent is heard to the end of the oldest one's frame, and the frame is placed and written.
 use crate::fault::Fault;
-use crate::output::{Emits, count_stuffing};
+use crate::output::{Emits, Output};
 use crate::parent::Parent;
-use crate::sink::Sink;
-use adapter::Adapter;
+use crate::rack::Rack;
 use adapter::answer::{Framed, Refusal};
-use carrier::Carrier;
-use feed::counters::Counters;
 use feed::plan::Plan;
 use rules::entry::Frame;
 
@@ -18,8 +15,7 @@ const PROGRESS: u64 = 1000;
 #[derive(Drop)]
 pub(crate) struct Job {
     pub(crate) parents: Vec<Parent>,
-    pub(crate) adapter: Adapter,
-    pub(crate) counters: Counters,
+    pub(crate) rack: Rack,
     pub(crate) plan: Plan,
     // How many frames at most.
     pub(crate) frames: u64,
@@ -31,72 +27,60 @@ pub(crate) struct Job {
 
 impl Job {
     // All frames that the input allows, and then the line of counters. What was placed before a fault is written all the same.
-    pub(crate) fn run<C: Emits>(
+    pub(crate) fn run<C: Emits + Drop>(
         &mut self,
         rt: &HostRuntime,
-        carrier: &mut C,
-        sink: &mut Sink,
+        output: &mut Output<C>,
     ) -> Result<(), Fault> {
-        let ran = self.run_frames(rt, carrier, sink);
-        let flushed = sink.flush();
+        let ran = self.run_frames(rt, output);
+        let flushed = output.flush();
         ran?;
         flushed?;
-        let counters = self.counters;
+        let counters = self.rack.counters();
         println!(rt; "{counters}")?;
         Ok(())
     }
 
-    fn run_frames<C: Emits>(
+    fn run_frames<C: Emits + Drop>(
         &mut self,
         rt: &HostRuntime,
-        carrier: &mut C,
-        sink: &mut Sink,
+        output: &mut Output<C>,
     ) -> Result<(), Fault> {
         for done in 0..self.frames {
             if done > 0 && done % PROGRESS == 0 {
                 let _ = eprintln!(rt; "remux: {done} frames");
             }
-            if !self.run_frame(rt, carrier, sink)? {
+            let Some(framed) = self.run_frame(rt, output)? else {
                 break;
+            };
+            if self.verbose {
+                println!(rt; "{framed}")?;
             }
+            output.emit()?;
         }
         Ok(())
     }
 
-    // One frame; false where the input or the records are at their end.
-    fn run_frame<C: Emits>(
+    // Places one frame; `None` where the input or the records are at their end.
+    fn run_frame<C: Emits + Drop>(
         &mut self,
         rt: &HostRuntime,
-        carrier: &mut C,
-        sink: &mut Sink,
-    ) -> Result<bool, Fault> {
+        output: &mut Output<C>,
+    ) -> Result<Option<Framed>, Fault> {
         self.give_records()?;
         let Some(frame) = self.oldest_record() else {
-            return Ok(false);
+            return Ok(None);
         };
         let end = frame.start.saturating_add(u64::from(self.plan.ticks));
-        hear_all(
-            self.parents.as_mut_slice(),
-            &mut self.adapter,
-            &mut self.counters,
-            end,
-            rt,
-        )?;
-        let framed = match self.adapter.frame(carrier) {
-            Ok(framed) => framed,
-            Err(Refusal::Unheard) => return Ok(false),
-            Err(refusal) => return Err(Fault::Refused(refusal)),
-        };
-        self.settle(framed, end);
-        let stuffing = count_stuffing(carrier);
-        self.counters
-            .count_frame(framed, carrier.held() as u64, stuffing as u64);
-        if self.verbose {
-            tell(rt, framed)?;
+        self.hear_all(end, rt)?;
+        match self.rack.frame(output) {
+            Ok(framed) => {
+                self.settle(framed, end);
+                Ok(Some(framed))
+            }
+            Err(Refusal::Unheard) => Ok(None),
+            Err(refusal) => Err(Fault::Refused(refusal)),
         }
-        sink.put(carrier.written())?;
-        carrier.empty();
-        Ok(true)
     }
 
     // As many records ahead as the adapter takes.
@@ -105,7 +89,7 @@ impl Job {
             let Some(frame) = self.plan.frame(self.given) else {
                 break;
             };
-            match self.adapter.record(frame.number, frame.start, frame.slots) {
+            match self.rack.record(frame) {
                 Ok(_) => self.given = self.given.saturating_add(1),
                 Err(Refusal::RecordsFull) => break,
                 Err(refusal) => return Err(Fault::Refused(refusal)),
@@ -114,78 +98,51 @@ impl Job {
         Ok(())
     }
 
+    // Hears each parent until a moment, or to the end of its input.
+    fn hear_all(&mut self, end: u64, rt: &HostRuntime) -> Result<(), Fault> {
+        for parent in self.parents.iter_mut() {
+            let heard = parent.hear_until(end, &mut self.rack, rt);
+            heard.map_err(|fault| parent.blame(fault))?;
+        }
+        Ok(())
+    }
+
     // The oldest record that waits.
     fn oldest_record(&self) -> Option<Frame> {
-        if self.oldest < self.given {
-            self.plan.frame(self.oldest)
-        } else {
-            None
-        }
+        let mut waiting = self.oldest..self.given;
+        waiting.next().and_then(|n| self.plan.frame(n))
     }
 
     // What a frame leaves of from-times and records, as in the adapter.
     fn settle(&mut self, framed: Framed, end: u64) {
         match framed {
             Framed::Skipped(_) => {
-                let since = latest(self.parents.as_slice());
-                restart(self.parents.as_mut_slice(), since);
-                self.let_go_before(since);
+                let from_times = self.parents.iter().map(|parent| parent.from_time());
+                let latest = from_times.max().unwrap_or(0);
+                self.restart(latest);
+                self.let_go_before(latest);
             }
             Framed::Followed(_, _) | Framed::Added(_, _) => {
-                restart(self.parents.as_mut_slice(), end);
+                self.restart(end);
                 self.oldest = self.oldest.saturating_add(1);
             }
         }
     }
 
+    // Every from-time becomes this moment.
+    fn restart(&mut self, since: u64) {
+        for parent in self.parents.iter_mut() {
+            parent.restart(since);
+        }
+    }
+
     // Records that start before a moment go.
     fn let_go_before(&mut self, since: u64) {
-        for n in self.oldest..self.given {
-            match self.plan.frame(n) {
-                Some(frame) if frame.start < since => self.oldest = n.saturating_add(1),
-                _ => break,
-            }
-        }
+        let starts_before = |n: &u64| {
+            let frame = self.plan.frame(*n);
+            frame.is_some_and(|frame| frame.start < since)
+        };
+        let gone = (self.oldest..self.given).take_while(starts_before).count();
+        self.oldest = self.oldest.saturating_add(gone as u64);
     }
-}
-
-// Hears each parent until a moment, or to the end of its input.
-fn hear_all(
-    parents: &mut [Parent],
-    adapter: &mut Adapter,
-    counters: &mut Counters,
-    end: u64,
-    rt: &HostRuntime,
-) -> Result<(), Fault> {
-    for parent in parents.iter_mut() {
-        if let Err(fault) = parent.hear_until(end, adapter, counters, rt) {
-            return Err(parent.blame(fault));
-        }
-    }
-    Ok(())
-}
-
-// The latest of the parents' from-times.
-fn latest(parents: &[Parent]) -> u64 {
-    let mut latest = 0;
-    for parent in parents {
-        latest = parent.from_time().max(latest);
-    }
-    latest
-}
-
-// Every from-time becomes this moment.
-fn restart(parents: &mut [Parent], since: u64) {
-    for parent in parents.iter_mut() {
-        parent.restart(since);
-    }
-}
-
-fn tell(rt: &HostRuntime, framed: Framed) -> Result<(), Fault> {
-    match framed {
-        Framed::Skipped(number) => println!(rt; "skipped {number}")?,
-        Framed::Followed(number, drops) => println!(rt; "followed {number} dropped {drops}")?,
-        Framed::Added(number, drops) => println!(rt; "added {number} dropped {drops}")?,
-    }
-    Ok(())
 }

@@ -8,6 +8,7 @@ mod options;
 mod output;
 mod parent;
 mod prepare;
+mod rack;
 mod sink;
 mod source;
 #[cfg(test)]
@@ -21,15 +22,9 @@ use std::process::ExitCode;
 // What the words of the command line ask for.
 fn run(rt: &HostRuntime) -> Result<(), Fault> {
     let heap = rt.alloc();
-    let args = match env::args(rt) {
-        Ok(args) => args,
-        Err(error) => return Err(Fault::Words(error)),
-    };
-    let mut words = Vec::new(heap);
-    for word in args.skip(1) {
-        words.push(word)?;
-    }
-    match read_call(heap, words.as_slice())? {
+    let mut words = env::args(rt).map_err(Fault::Words)?;
+    let _program = words.next();
+    match read_call(heap, words)? {
         Call::Help => rt.println(USAGE)?,
         Call::Remux(options) => prepare::remux(rt, &options)?,
     }

@@ -1,6 +1,9 @@
 // The words of the command line.
-use std::alloc::{AllocError, AllocFailed, Global};
+use std::alloc::{AllocError, Global};
+use std::env::Args;
 use std::fmt;
+use std::str::FromStr;
+use thiserror::Error;
 
 pub(crate) const USAGE: &str = "usage: remux CONFIG PARENT0.ts [PARENT1.ts ..] -o OUT [options]
 
@@ -23,7 +26,11 @@ Times are in ticks of 27 MHz.
 
 example: remux mux.conf parent0.ts parent1.ts -o out.ts --slots 1000 --start 2700000 -v";
 
-// An option that has a value behind it.
+// A word that is none of those that may stand in its place.
+#[derive(Clone, Copy, Debug)]
+pub(crate) struct UnknownWord;
+
+// An option that has values behind it.
 #[derive(Clone, Copy, PartialEq, Eq, Debug)]
 pub(crate) enum Named {
     Out,
@@ -32,29 +39,32 @@ pub(crate) enum Named {
     Frames,
     Carrier,
     Entries,
+    // These two are for a parent, whose number goes before the value.
     Time,
     Miss,
 }
 
-impl Named {
-    fn of(word: &str) -> Option<Named> {
+impl FromStr for Named {
+    type Err = UnknownWord;
+
+    fn from_str(word: &str) -> Result<Named, UnknownWord> {
         match word {
-            "-o" => Some(Named::Out),
-            "--slots" => Some(Named::Slots),
-            "--start" => Some(Named::Start),
-            "--frames" => Some(Named::Frames),
-            "--carrier" => Some(Named::Carrier),
-            "--entries" => Some(Named::Entries),
-            "--time" => Some(Named::Time),
-            "--miss" => Some(Named::Miss),
-            _ => None,
+            "-o" => Ok(Named::Out),
+            "--slots" => Ok(Named::Slots),
+            "--start" => Ok(Named::Start),
+            "--frames" => Ok(Named::Frames),
+            "--carrier" => Ok(Named::Carrier),
+            "--entries" => Ok(Named::Entries),
+            "--time" => Ok(Named::Time),
+            "--miss" => Ok(Named::Miss),
+            _ => Err(UnknownWord),
         }
     }
 }
 
 impl fmt::Display for Named {
     fn fmt<W: fmt::Write>(&self, f: &mut fmt::Formatter<W>) -> fmt::Result {
-        let word = match self {
+        f.write_str(match self {
             Named::Out => "-o",
             Named::Slots => "--slots",
             Named::Start => "--start",
@@ -63,8 +73,7 @@ impl fmt::Display for Named {
             Named::Entries => "--entries",
             Named::Time => "--time",
             Named::Miss => "--miss",
-        };
-        f.write_str(word)
+        })
     }
 }
 
@@ -74,66 +83,58 @@ pub(crate) enum CarrierKind {
     Folded,
 }
 
-// What is wrong with a call.
-#[derive(Debug, Drop)]
-pub(crate) enum UsageFault {
-    UnknownOption(String),
-    NoValue(Named),
-    GivenTwice(Named),
-    NoNumber(Named, String),
-    NoParent(Named, String),
-    NoCarrier(String),
-    NoOutput,
-    NoInput,
-    Memory,
-}
+impl FromStr for CarrierKind {
+    type Err = UnknownWord;
 
-impl fmt::Display for UsageFault {
-    fn fmt<W: fmt::Write>(&self, f: &mut fmt::Formatter<W>) -> fmt::Result {
-        match self {
-            UsageFault::UnknownOption(word) => write!(f, "unknown option {word}"),
-            UsageFault::NoValue(option) => write!(f, "{option} needs a value"),
-            UsageFault::GivenTwice(option) => write!(f, "{option} is given twice"),
-            UsageFault::NoNumber(option, word) => write!(f, "{option}: {word} is no number"),
-            UsageFault::NoParent(option, word) => {
-                write!(f, "{option}: {word} is no parent (0 to 3)")
-            }
-            UsageFault::NoCarrier(word) => {
-                write!(f, "--carrier: {word} is neither strip nor folded")
-            }
-            UsageFault::NoOutput => f.write_str("where does the multiplex go? -o FILE"),
-            UsageFault::NoInput => {
-                f.write_str("a configuration and a file for each parent are needed (see --help)")
-            }
-            UsageFault::Memory => f.write_str("out of memory"),
+    fn from_str(word: &str) -> Result<CarrierKind, UnknownWord> {
+        match word {
+            "strip" => Ok(CarrierKind::Strip),
+            "folded" => Ok(CarrierKind::Folded),
+            _ => Err(UnknownWord),
         }
     }
 }
 
-impl From<AllocError> for UsageFault {
-    fn from(_e: AllocError) -> UsageFault {
-        UsageFault::Memory
-    }
-}
-
-impl<T: Drop> From<AllocFailed<T>> for UsageFault {
-    fn from(_e: AllocFailed<T>) -> UsageFault {
-        UsageFault::Memory
-    }
+// What is wrong with a call.
+#[derive(Debug, Drop, Error)]
+pub(crate) enum UsageFault {
+    #[error("unknown option {0}")]
+    UnknownOption(String),
+    #[error("{0} needs a value")]
+    NoValue(Named),
+    #[error("{0} is given twice")]
+    GivenTwice(Named),
+    #[error("{0}: {1} is no number")]
+    NoNumber(Named, String),
+    #[error("{0}: {1} is no parent (0 to 3)")]
+    NoParent(Named, String),
+    #[error("--carrier: {0} is neither strip nor folded")]
+    NoCarrier(String),
+    #[error("where does the multiplex go? -o FILE")]
+    NoOutput,
+    #[error("a configuration and a file for each parent are needed (see --help)")]
+    NoInput,
+    #[error("out of memory")]
+    Memory(#[from(alloc)] AllocError),
 }
 
 // What the options set; `None` where the default holds.
-#[derive(Clone, Copy)]
+#[derive(Clone, Copy, Default)]
 pub(crate) struct Settings {
     pub(crate) slots: Option<u64>,
     pub(crate) start: Option<u64>,
     pub(crate) frames: Option<u64>,
     pub(crate) carrier: Option<CarrierKind>,
     pub(crate) entries: Option<u64>,
-    // For each parent the time of its first packet, and how many packets are missed.
-    pub(crate) times: [Option<u64>; 4],
-    pub(crate) misses: [Option<u64>; 4],
+    pub(crate) parents: [ParentSettings; 4],
     pub(crate) verbose: bool,
+}
+
+// What they set for one parent: the time of its first packet, and how many packets are missed.
+#[derive(Clone, Copy, Default)]
+pub(crate) struct ParentSettings {
+    pub(crate) time: Option<u64>,
+    pub(crate) miss: Option<u64>,
 }
 
 // What is asked for.
@@ -152,31 +153,19 @@ pub(crate) enum Call {
 }
 
 // The call that the words make, the program's name left out.
-pub(crate) fn read_call(heap: Global, words: &[String]) -> Result<Call, UsageFault> {
+pub(crate) fn read_call(heap: Global, mut words: Args) -> Result<Call, UsageFault> {
     let mut draft = Draft::new(heap);
-    let mut next = Next::Any;
-    for word in words {
-        next = match (next, word.as_str()) {
-            (Next::Any, "--help") => return Ok(Call::Help),
-            (next, word) => draft.read(heap, next, word)?,
+    // Each turn takes one word or more.
+    for _ in 0..words.len() {
+        let Some(word) = words.next() else {
+            break;
         };
+        if word.as_str() == "--help" {
+            return Ok(Call::Help);
+        }
+        draft.read(word, &mut words)?;
     }
-    match next {
-        Next::Any => Ok(Call::Remux(draft.finish()?)),
-        Next::Value(option) => Err(UsageFault::NoValue(option)),
-        Next::ForParent(option, _) => Err(UsageFault::NoValue(option)),
-    }
-}
-
-// What the next word is.
-#[derive(Clone, Copy)]
-enum Next {
-    // An option or a file.
-    Any,
-    // The value of an option, or the parent that it is for.
-    Value(Named),
-    // The value of an option for a parent.
-    ForParent(Named, usize),
+    Ok(Call::Remux(draft.finish()?))
 }
 
 // What was read so far.
@@ -194,47 +183,15 @@ impl Draft {
             config: None,
             parents: Vec::new(heap),
             out: None,
-            settings: Settings {
-                slots: None,
-                start: None,
-                frames: None,
-                carrier: None,
-                entries: None,
-                times: [None; 4],
-                misses: [None; 4],
-                verbose: false,
-            },
+            settings: Settings::default(),
         }
     }
 
-    // Takes a word, and says what the next one is.
-    fn read(&mut self, heap: Global, next: Next, word: &str) -> Result<Next, UsageFault> {
-        match next {
-            Next::Any => self.read_any(heap, word),
-            Next::Value(Named::Time) => Ok(Next::ForParent(
-                Named::Time,
-                parent(heap, Named::Time, word)?,
-            )),
-            Next::Value(Named::Miss) => Ok(Next::ForParent(
-                Named::Miss,
-                parent(heap, Named::Miss, word)?,
-            )),
-            Next::Value(option) => {
-                self.read_value(heap, option, word)?;
-                Ok(Next::Any)
-            }
-            Next::ForParent(option, parent) => {
-                self.read_for_parent(heap, option, parent, word)?;
-                Ok(Next::Any)
-            }
+    // Reads a word, and behind an option its values.
+    fn read(&mut self, word: String, words: &mut Args) -> Result<(), UsageFault> {
+        if let Ok(option) = word.as_str().parse() {
+            return self.read_values(option, words);
         }
-    }
-
-    fn read_any(&mut self, heap: Global, word: &str) -> Result<Next, UsageFault> {
-        if let Some(option) = Named::of(word) {
-            return Ok(Next::Value(option));
-        }
-        let word = String::from_str(heap, word)?;
         if word.as_str() == "-v" {
             self.settings.verbose = true;
         } else if word.as_str().starts_with('-') {
@@ -244,33 +201,26 @@ impl Draft {
         } else {
             self.parents.push(word)?;
         }
-        Ok(Next::Any)
+        Ok(())
     }
 
-    fn read_value(&mut self, heap: Global, option: Named, word: &str) -> Result<(), UsageFault> {
+    fn read_values(&mut self, option: Named, words: &mut Args) -> Result<(), UsageFault> {
         let settings = &mut self.settings;
         match option {
-            Named::Out => set(&mut self.out, option, String::from_str(heap, word)?),
-            Named::Carrier => set(&mut settings.carrier, option, carrier_kind(heap, word)?),
-            Named::Slots => set(&mut settings.slots, option, number(heap, option, word)?),
-            Named::Start => set(&mut settings.start, option, number(heap, option, word)?),
-            Named::Frames => set(&mut settings.frames, option, number(heap, option, word)?),
-            Named::Entries => set(&mut settings.entries, option, number(heap, option, word)?),
-            Named::Time | Named::Miss => Ok(()),
-        }
-    }
-
-    fn read_for_parent(
-        &mut self,
-        heap: Global,
-        option: Named,
-        parent: usize,
-        word: &str,
-    ) -> Result<(), UsageFault> {
-        let value = number(heap, option, word)?;
-        match option {
-            Named::Time => set_for(&mut self.settings.times, parent, option, value),
-            _ => set_for(&mut self.settings.misses, parent, option, value),
+            Named::Out => set(&mut self.out, option, value(option, words)?),
+            Named::Slots => set(&mut settings.slots, option, number(option, words)?),
+            Named::Start => set(&mut settings.start, option, number(option, words)?),
+            Named::Frames => set(&mut settings.frames, option, number(option, words)?),
+            Named::Carrier => set(&mut settings.carrier, option, carrier(words)?),
+            Named::Entries => set(&mut settings.entries, option, number(option, words)?),
+            Named::Time => {
+                let parent = parent(&mut settings.parents, option, words)?;
+                set(&mut parent.time, option, number(option, words)?)
+            }
+            Named::Miss => {
+                let parent = parent(&mut settings.parents, option, words)?;
+                set(&mut parent.miss, option, number(option, words)?)
+            }
         }
     }
 
@@ -281,19 +231,14 @@ impl Draft {
             out,
             settings,
         } = self;
-        let Some(config) = config else {
-            return Err(UsageFault::NoInput);
-        };
+        let config = config.ok_or(UsageFault::NoInput)?;
         if parents.is_empty() {
             return Err(UsageFault::NoInput);
         }
-        let Some(out) = out else {
-            return Err(UsageFault::NoOutput);
-        };
         Ok(Options {
             config,
             parents,
-            out,
+            out: out.ok_or(UsageFault::NoOutput)?,
             settings,
         })
     }
@@ -301,50 +246,45 @@ impl Draft {
 
 // Sets what was not set before.
 fn set<T: Drop>(place: &mut Option<T>, option: Named, value: T) -> Result<(), UsageFault> {
-    if place.is_some() {
-        return Err(UsageFault::GivenTwice(option));
-    }
-    *place = Some(value);
-    Ok(())
-}
-
-// Sets what was not set before for a parent.
-fn set_for(
-    places: &mut [Option<u64>; 4],
-    parent: usize,
-    option: Named,
-    value: u64,
-) -> Result<(), UsageFault> {
-    match places.get_mut(parent) {
-        Some(place) => set(place, option, value),
+    match place.replace(value) {
+        Some(_) => Err(UsageFault::GivenTwice(option)),
         None => Ok(()),
     }
 }
 
+// The word behind an option.
+fn value(option: Named, words: &mut Args) -> Result<String, UsageFault> {
+    words.next().ok_or(UsageFault::NoValue(option))
+}
+
 // A decimal number, with no sign.
-fn number(heap: Global, option: Named, word: &str) -> Result<u64, UsageFault> {
-    if !word.starts_with('+') {
-        if let Ok(n) = word.parse::<u64>() {
-            return Ok(n);
-        }
+fn number(option: Named, words: &mut Args) -> Result<u64, UsageFault> {
+    let word = value(option, words)?;
+    if word.as_str().starts_with('+') {
+        return Err(UsageFault::NoNumber(option, word));
     }
-    Err(UsageFault::NoNumber(option, String::from_str(heap, word)?))
+    let number = word.as_str().parse();
+    number.map_err(|_| UsageFault::NoNumber(option, word))
 }
 
-fn parent(heap: Global, option: Named, word: &str) -> Result<usize, UsageFault> {
-    match word {
-        "0" => Ok(0),
-        "1" => Ok(1),
-        "2" => Ok(2),
-        "3" => Ok(3),
-        _ => Err(UsageFault::NoParent(option, String::from_str(heap, word)?)),
-    }
+fn carrier(words: &mut Args) -> Result<CarrierKind, UsageFault> {
+    let word = value(Named::Carrier, words)?;
+    let kind = word.as_str().parse();
+    kind.map_err(|_| UsageFault::NoCarrier(word))
 }
 
-fn carrier_kind(heap: Global, word: &str) -> Result<CarrierKind, UsageFault> {
-    match word {
-        "strip" => Ok(CarrierKind::Strip),
-        "folded" => Ok(CarrierKind::Folded),
-        _ => Err(UsageFault::NoCarrier(String::from_str(heap, word)?)),
+// The settings of the parent whose number is next.
+fn parent<'a>(
+    parents: &'a mut [ParentSettings; 4],
+    option: Named,
+    words: &mut Args,
+) -> Result<&'a mut ParentSettings, UsageFault> {
+    let word = value(option, words)?;
+    match word.as_str() {
+        "0" => Ok(&mut parents[0]),
+        "1" => Ok(&mut parents[1]),
+        "2" => Ok(&mut parents[2]),
+        "3" => Ok(&mut parents[3]),
+        _ => Err(UsageFault::NoParent(option, word)),
     }
 }

@@ -1,12 +1,59 @@
 // A parent: the stream that its file holds, and what is known of it from the packets that were taken.
 use crate::fault::{Fault, FileFault};
+use crate::rack::Rack;
 use crate::source::Source;
-use adapter::Adapter;
-use adapter::answer::{Heard, Refusal};
-use feed::counters::Counters;
 use feed::file::{FileKind, stamp_of};
 use feed::known::Known;
 use feed::times::{handed_with, unwrap_stamp};
+
+// What tells when a parent's packets arrive.
+#[derive(Clone, Copy)]
+enum Clock {
+    // In a plain file the parent's rate, from the time of packet 0 on.
+    Steady { first: u64, rate: u32 },
+    // In a timed file their stamps: the last packet's time, and its stamp.
+    Stamped { time: u64, stamp: u32 },
+}
+
+impl Clock {
+    // At packet 0 of a file, which has this time, or else the one of its stamp.
+    fn new(source: &Source, rate: u32, time: Option<u64>) -> Clock {
+        match source.kind() {
+            FileKind::Plain => Clock::Steady {
+                first: time.unwrap_or(0),
+                rate,
+            },
+            FileKind::Timed => {
+                let stamp = stamp_of(source.piece()).unwrap_or(0);
+                Clock::Stamped {
+                    time: time.unwrap_or(u64::from(stamp)),
+                    stamp,
+                }
+            }
+        }
+    }
+
+    // The time of packet 0, as long as the clock stands there.
+    fn first(self) -> u64 {
+        match self {
+            Clock::Steady { first, .. } => first,
+            Clock::Stamped { time, .. } => time,
+        }
+    }
+
+    // The time that the next packet is handed with.
+    fn next(&mut self, source: &Source) -> Option<u64> {
+        match self {
+            Clock::Steady { first, rate } => handed_with(*first, *rate, source.passed()),
+            Clock::Stamped { time, stamp } => {
+                let next = stamp_of(source.piece()).unwrap_or(*stamp);
+                *time = unwrap_stamp(*time, *stamp, next);
+                *stamp = next;
+                Some(*time)
+            }
+        }
+    }
+}
 
 #[derive(Drop)]
 pub(crate) struct Parent {
@@ -17,9 +64,7 @@ pub(crate) struct Parent {
     source: Source,
     // When packet 0 arrives.
     first: u64,
-    // The time and the stamp of the last packet of a timed file.
-    time: u64,
-    stamp: u32,
+    clock: Clock,
     known: Option<Known>,
     // Whether the last packet had its sync byte.
     in_sync: bool,
@@ -34,19 +79,14 @@ impl Parent {
         source: Source,
         time: Option<u64>,
     ) -> Parent {
-        let stamp = match source.kind() {
-            FileKind::Plain => 0,
-            FileKind::Timed => stamp_of(source.piece()).unwrap_or(0),
-        };
-        let first = time.unwrap_or(u64::from(stamp));
+        let clock = Clock::new(&source, rate, time);
         Parent {
             name,
             number,
             rate,
             source,
-            first,
-            time: first,
-            stamp,
+            first: clock.first(),
+            clock,
             known: None,
             in_sync: true,
         }
@@ -56,16 +96,14 @@ impl Parent {
     pub(crate) fn blame(&self, fault: FileFault) -> Fault {
         match self.name.clone() {
             Ok(name) => Fault::File(name, fault),
-            Err(_) => Fault::Memory,
+            Err(error) => Fault::Memory(error),
         }
     }
 
     // Whether its file ends in the middle of a packet, once all before it was heard.
     pub(crate) fn cut(&self) -> Option<Fault> {
-        match self.source.cut() {
-            Some(offset) => Some(self.blame(FileFault::Cut(offset))),
-            None => None,
-        }
+        let offset = self.source.cut()?;
+        Some(self.blame(FileFault::Cut(offset)))
     }
 
     // When packet 0 arrives.
@@ -75,19 +113,13 @@ impl Parent {
 
     // What arrives before is no longer wanted.
     pub(crate) fn from_time(&self) -> u64 {
-        match self.known {
-            Some(known) => known.from,
-            None => 0,
-        }
+        self.known.map_or(0, |known| known.from)
     }
 
     // The from-time becomes this moment.
     pub(crate) fn restart(&mut self, since: u64) {
-        if let Some(known) = self.known {
-            self.known = Some(Known {
-                from: since,
-                ..known
-            });
+        if let Some(known) = &mut self.known {
+            known.from = since;
         }
     }
 
@@ -97,7 +129,7 @@ impl Parent {
             if !self.source.has_next()? {
                 break;
             }
-            let _ = self.next_time();
+            let _ = self.clock.next(&self.source);
             self.source.pass();
         }
         Ok(())
@@ -107,8 +139,7 @@ impl Parent {
     pub(crate) fn hear_until(
         &mut self,
         end: u64,
-        adapter: &mut Adapter,
-        counters: &mut Counters,
+        rack: &mut Rack,
         rt: &HostRuntime,
     ) -> Result<(), FileFault> {
         for _ in 0..u64::MAX {
@@ -116,47 +147,24 @@ impl Parent {
                 break;
             }
             self.watch_sync(rt);
-            let answer = self.hear_next(adapter);
-            counters.count_hear(answer);
+            self.hear_next(rack);
         }
         Ok(())
     }
 
     fn is_heard_to(&self, end: u64) -> bool {
-        match self.known {
-            Some(known) => known.heard_to >= end,
-            None => false,
-        }
-    }
-
-    // The time that the next packet is handed with.
-    fn next_time(&mut self) -> Option<u64> {
-        match self.source.kind() {
-            FileKind::Plain => handed_with(self.first, self.rate, self.source.passed()),
-            FileKind::Timed => {
-                let stamp = stamp_of(self.source.piece()).unwrap_or(self.stamp);
-                self.time = unwrap_stamp(self.time, self.stamp, stamp);
-                self.stamp = stamp;
-                Some(self.time)
-            }
-        }
+        self.known.is_some_and(|known| known.heard_to >= end)
     }
 
     // Hands the next packet to the adapter.
-    fn hear_next(&mut self, adapter: &mut Adapter) -> Result<Heard, Refusal> {
-        let time = self.next_time();
-        let answer = adapter.hear(self.number, self.source.packet(), time);
+    fn hear_next(&mut self, rack: &mut Rack) {
+        let time = self.clock.next(&self.source);
+        let heard = rack.hear(self.number, self.source.packet(), time);
         self.source.pass();
-        match answer {
-            Ok(_) => self.known = Known::after(self.known, time, self.rate),
-            // A packet that found no room is gone: those behind it can no longer be counted.
-            Err(Refusal::FullLine) => {
-                let _ = adapter.loss(self.number);
-                self.known = None;
-            }
-            Err(_) => self.known = None,
-        }
-        answer
+        self.known = match heard {
+            Ok(_) => Known::after(self.known, time, self.rate),
+            Err(_) => None,
+        };
     }
 
     // Tells where sync bytes begin to be missing.

@@ -2,25 +2,25 @@
 use crate::fault::{Fault, FileFault};
 use crate::job::Job;
 use crate::options::{CarrierKind, Named, Options, Settings};
+use crate::output::Output;
 use crate::parent::Parent;
+use crate::rack::Rack;
 use crate::sink::Sink;
 use crate::source::Source;
 use adapter::Adapter;
 use carrier::{Folded, Strip};
+use conffile::read_text;
 use config::answer::answer_line;
 use config::check::check;
 use config::table::Config;
-use feed::counters::Counters;
 use feed::plan::Plan;
+use psi::packet::LENGTH;
 use rules::entry::Entry;
-use std::alloc::Global;
-use std::io::Read;
-use std::{fs, io};
+use std::alloc::{AllocError, Global};
+use std::fs;
 
-// One byte more than a configuration may have, so that a longer one is seen to be too long and read no further.
-const ENOUGH: u64 = 16_385;
-// A frame has at most so many slots, and by default these.
-const MOST_SLOTS: u64 = 4096;
+// A frame has at most so many slots, and by default these. The adapter has its own limit, and keeps it to itself.
+const MOST_SLOTS: u32 = 4096;
 
 const USUAL_SLOTS: u64 = 1000;
 // A parent's line has room for so many entries; more are never used.
@@ -30,19 +30,17 @@ const LINE: usize = 4096;
 pub(crate) fn remux(rt: &HostRuntime, options: &Options) -> Result<(), Fault> {
     let heap = rt.alloc();
     let mut job = prepare(rt, options)?;
-    let mut sink = create(rt, options)?;
-    let slots = job.plan.slots as usize;
-    match options.settings.carrier {
-        Some(CarrierKind::Folded) => {
-            let bytes = vec![in heap; 0u8; slots * 189]?;
-            job.run(rt, &mut Folded::new(bytes), &mut sink)?;
-        }
-        _ => {
-            let bytes = vec![in heap; 0u8; slots * 188]?;
-            job.run(rt, &mut Strip::new(bytes), &mut sink)?;
-        }
+    let sink = create(rt, options)?;
+    let slots = job.plan.slots;
+    match options.settings.carrier.unwrap_or(CarrierKind::Strip) {
+        CarrierKind::Strip => job.run(rt, &mut Output::<Strip>::new(heap, slots, sink)?)?,
+        CarrierKind::Folded => job.run(rt, &mut Output::<Folded>::new(heap, slots, sink)?)?,
     }
-    whole(job.parents.as_slice())
+    // A file that ends in the middle of a packet is told of after all before it was used.
+    match job.parents.iter().find_map(|parent| parent.cut()) {
+        Some(fault) => Err(fault),
+        None => Ok(()),
+    }
 }
 
 // A run, ready to begin.
@@ -53,16 +51,17 @@ fn prepare(rt: &HostRuntime, options: &Options) -> Result<Job, Fault> {
     let slots = slots_for(&config, settings)?;
     let entries = entries_for(&config, settings)?;
     let mut parents = open_parents(rt, &config, options)?;
+    let first_times = parents.iter().map(|parent| parent.first_time());
+    let latest = first_times.max().unwrap_or(0);
     let plan = Plan {
-        start: settings.start.unwrap_or(latest_first(parents.as_slice())),
+        start: settings.start.unwrap_or(latest),
         ticks: config.ticks(),
         slots,
     };
     miss_all(parents.as_mut_slice(), settings)?;
     Ok(Job {
         parents,
-        adapter: Adapter::new(config, waiting_memory(rt.alloc(), entries)?),
-        counters: Counters::new(),
+        rack: Rack::new(Adapter::new(config, waiting_memory(rt.alloc(), entries)?)),
         plan,
         frames: settings.frames.unwrap_or(u64::MAX),
         oldest: 0,
@@ -71,33 +70,23 @@ fn prepare(rt: &HostRuntime, options: &Options) -> Result<Job, Fault> {
     })
 }
 
-fn unusable(heap: Global, path: &str, error: io::Error) -> Fault {
+// A fault of the file with this name.
+fn blame(heap: Global, path: &str, fault: FileFault) -> Fault {
     match String::from_str(heap, path) {
-        Ok(path) => Fault::File(path, FileFault::Unusable(error)),
-        Err(_) => Fault::Memory,
+        Ok(path) => Fault::File(path, fault),
+        Err(error) => Fault::Memory(error),
     }
-}
-
-fn read_some(rt: &HostRuntime, path: &str) -> io::Result<Vec<u8>> {
-    let mut text = Vec::new(rt.alloc());
-    fs::open(rt, path)?.take(ENOUGH).read_to_end(&mut text)?;
-    Ok(text)
 }
 
 // The configuration in a file, checked.
 fn read_config(rt: &HostRuntime, path: &str) -> Result<Config, Fault> {
     let heap = rt.alloc();
-    let text = match read_some(rt, path) {
-        Ok(text) => text,
-        Err(error) => return Err(unusable(heap, path, error)),
-    };
-    match check(heap, text.as_slice()) {
-        Ok(config) => Ok(config),
-        Err(_) => {
-            let line = answer_line(heap, text.as_slice())?;
-            Err(Fault::Config(String::from_str(heap, path)?, line))
-        }
-    }
+    let text = fs::open(rt, path).and_then(|file| read_text(heap, file));
+    let text = text.map_err(|error| blame(heap, path, error.into()))?;
+    check(heap, text.as_slice()).try_map_err(|_| {
+        let line = answer_line(heap, text.as_slice())?;
+        Ok(Fault::Config(String::from_str(heap, path)?, line))
+    })
 }
 
 // Whether there is a file for each parent, and no option for another one.
@@ -106,13 +95,13 @@ fn listed(config: &Config, options: &Options) -> Result<(), Fault> {
     if options.parents.len() != parents {
         return Err(Fault::Files(options.parents.len(), parents));
     }
-    let settings = &options.settings;
-    for parent in parents..4 {
-        if settings.times[parent].is_some() {
-            return Err(Fault::Unlisted(Named::Time, parent));
+    let settings = options.settings.parents.iter();
+    for (number, parent) in settings.enumerate().skip(parents) {
+        if parent.time.is_some() {
+            return Err(Fault::Unlisted(Named::Time, number));
         }
-        if settings.misses[parent].is_some() {
-            return Err(Fault::Unlisted(Named::Miss, parent));
+        if parent.miss.is_some() {
+            return Err(Fault::Unlisted(Named::Miss, number));
         }
     }
     Ok(())
@@ -121,10 +110,9 @@ fn listed(config: &Config, options: &Options) -> Result<(), Fault> {
 // How many slots a frame has.
 fn slots_for(config: &Config, settings: &Settings) -> Result<u32, Fault> {
     let slots = settings.slots.unwrap_or(USUAL_SLOTS);
-    if slots < u64::from(config.copies()) || slots > MOST_SLOTS {
-        return Err(Fault::Slots(slots));
-    }
-    Ok(slots as u32)
+    let fits = |slots: &u32| (config.copies()..=MOST_SLOTS).contains(slots);
+    let known = u32::try_from(slots).ok().filter(fits);
+    known.ok_or(Fault::Slots(slots))
 }
 
 // How many entries the waiting memory has: not more than can be used.
@@ -141,11 +129,11 @@ fn entries_for(config: &Config, settings: &Settings) -> Result<usize, Fault> {
     Ok((entries as usize).min(most))
 }
 
-fn waiting_memory(heap: Global, entries: usize) -> Result<Vec<Entry>, Fault> {
+fn waiting_memory(heap: Global, entries: usize) -> Result<Vec<Entry>, AllocError> {
     let nothing = Entry {
         arrival: 0,
         row: 0,
-        bytes: [0; 188],
+        bytes: [0; LENGTH],
     };
     Ok(vec![in heap; nothing; entries]?)
 }
@@ -155,35 +143,23 @@ fn open_parents(
     config: &Config,
     options: &Options,
 ) -> Result<Vec<Parent>, Fault> {
-    let mut parents = Vec::new(rt.alloc());
-    let files = options.parents.iter();
-    for ((number, file), rate) in files.enumerate().zip(config.rates()) {
+    let heap = rt.alloc();
+    let mut parents = Vec::new(heap);
+    let files = options.parents.iter().zip(&options.settings.parents);
+    for (number, ((file, settings), rate)) in files.zip(config.rates()).enumerate() {
+        let source = Source::open(rt, file.as_str());
+        let source = source.map_err(|fault| blame(heap, file.as_str(), fault))?;
         let name = file.clone()?;
-        let source = match Source::open(rt, file.as_str()) {
-            Ok(source) => source,
-            Err(fault) => return Err(Fault::File(name, fault)),
-        };
-        let time = options.settings.times.get(number).copied().flatten();
-        parents.push(Parent::new(name, number, *rate, source, time))?;
+        parents.push(Parent::new(name, number, *rate, source, settings.time))?;
     }
     Ok(parents)
 }
 
-// The latest of the parents' first times.
-fn latest_first(parents: &[Parent]) -> u64 {
-    let mut latest = 0;
-    for parent in parents {
-        latest = parent.first_time().max(latest);
-    }
-    latest
-}
-
 // Passes by the packets that this rack misses.
 fn miss_all(parents: &mut [Parent], settings: &Settings) -> Result<(), Fault> {
-    for (parent, count) in parents.iter_mut().zip(&settings.misses) {
-        if let Err(fault) = parent.miss(count.unwrap_or(0)) {
-            return Err(parent.blame(fault));
-        }
+    for (parent, settings) in parents.iter_mut().zip(&settings.parents) {
+        let missed = parent.miss(settings.miss.unwrap_or(0));
+        missed.map_err(|fault| parent.blame(fault))?;
     }
     Ok(())
 }
@@ -191,22 +167,13 @@ fn miss_all(parents: &mut [Parent], settings: &Settings) -> Result<(), Fault> {
 // Where the multiplex goes: none of the files that are read.
 fn create(rt: &HostRuntime, options: &Options) -> Result<Sink, Fault> {
     let name = options.out.clone()?;
-    let mut is_input = options.config.as_str() == name.as_str();
-    for file in options.parents.iter() {
-        is_input = is_input || file.as_str() == name.as_str();
-    }
+    let is_input = options.config.as_str() == name.as_str()
+        || options
+            .parents
+            .iter()
+            .any(|file| file.as_str() == name.as_str());
     if is_input {
         return Err(Fault::Overwrites(name));
     }
     Sink::create(rt, name)
-}
-
-// A file that ends in the middle of a packet is told of after all before it was used.
-fn whole(parents: &[Parent]) -> Result<(), Fault> {
-    for parent in parents {
-        if let Some(fault) = parent.cut() {
-            return Err(fault);
-        }
-    }
-    Ok(())
 }

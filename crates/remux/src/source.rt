@@ -1,9 +1,8 @@
 // A parent's file, read block by block and handed piece by piece.
 use crate::fault::FileFault;
 use feed::file::FileKind;
-use std::alloc::Global;
 use std::fs::File;
-use std::io::{ErrorKind, Read};
+use std::io::Read;
 use std::{fs, io};
 
 // Whole pieces of either kind: a multiple of 188 and of 192.
@@ -13,9 +12,9 @@ const BLOCK: usize = 9_024 * 32;
 pub(crate) struct Source {
     file: File,
     kind: FileKind,
+    // Full where the file has not ended, so that no piece reaches over its end, as one can over that of a `BufReader`'s.
     block: Vec<u8>,
-    // How many bytes of the block are the file's, and where the next piece begins.
-    filled: usize,
+    // Where the next piece begins in the block.
     at: usize,
     // How many pieces were passed.
     passed: u64,
@@ -25,20 +24,16 @@ impl Source {
     // Opens a file and sees of which kind it is.
     pub(crate) fn open(rt: &HostRuntime, path: &str) -> Result<Source, FileFault> {
         let mut file = fs::open(rt, path)?;
-        let mut block = vec![in rt.alloc(); 0u8; BLOCK]?;
-        let filled = fill(&mut file, block.as_mut_slice())?;
-        if filled == 0 {
+        let mut block = Vec::with_capacity(rt.alloc(), BLOCK).map_err(io::Error::from)?;
+        fill(&mut file, &mut block)?;
+        if block.is_empty() {
             return Err(FileFault::Empty);
         }
-        let head = block.as_slice().get(0..filled).unwrap_or(&[]);
-        let Some(kind) = FileKind::of(head) else {
-            return Err(FileFault::NeitherKind);
-        };
+        let kind = FileKind::of(block.as_slice()).ok_or(FileFault::NeitherKind)?;
         Ok(Source {
             file,
             kind,
             block,
-            filled,
             at: 0,
             passed: 0,
         })
@@ -53,13 +48,18 @@ impl Source {
         self.passed
     }
 
+    // How many bytes of the block were not passed.
+    fn left(&self) -> usize {
+        self.block.len().saturating_sub(self.at)
+    }
+
     // Whether another piece is there; it reads on where it has to.
     pub(crate) fn has_next(&mut self) -> io::Result<bool> {
-        if self.at >= self.filled {
-            self.filled = fill(&mut self.file, self.block.as_mut_slice())?;
+        if self.left() == 0 {
+            fill(&mut self.file, &mut self.block)?;
             self.at = 0;
         }
-        Ok(self.filled.saturating_sub(self.at) >= self.kind.length())
+        Ok(self.left() >= self.kind.length())
     }
 
     // The next piece, where one is there.
@@ -75,10 +75,7 @@ impl Source {
     // The next piece from a place on; nothing where none is there.
     fn part(&self, from: usize) -> &[u8] {
         let end = self.at.saturating_add(self.kind.length());
-        match self.block.as_slice().get(from..end) {
-            Some(part) => part,
-            None => &[],
-        }
+        self.block.as_slice().get(from..end).unwrap_or(&[])
     }
 
     pub(crate) fn pass(&mut self) {
@@ -98,31 +95,15 @@ impl Source {
 
     // Where the packet begins in whose middle the file ends, once all before it was passed.
     pub(crate) fn cut(&self) -> Option<u64> {
-        let left = self.filled.saturating_sub(self.at);
-        if left > 0 && left < self.kind.length() {
-            Some(self.offset())
-        } else {
-            None
-        }
+        (1..self.kind.length())
+            .contains(&self.left())
+            .then(|| self.offset())
     }
 }
 
 // Reads until the block is full or the file ends.
-fn fill(file: &mut File, block: &mut [u8]) -> io::Result<usize> {
-    let mut filled = 0;
-    for _ in 0..u64::MAX {
-        if filled >= block.len() {
-            break;
-        }
-        match file.read(&mut block[filled..]) {
-            Ok(0) => break,
-            Ok(count) => filled += count,
-            Err(error) => {
-                if error.kind() != ErrorKind::Interrupted {
-                    return Err(error);
-                }
-            }
-        }
-    }
-    Ok(filled)
+fn fill(file: &mut File, block: &mut Vec<u8>) -> io::Result<()> {
+    block.clear();
+    file.take(BLOCK as u64).read_to_end(block)?;
+    Ok(())
 }

@@ -58,7 +58,7 @@ fn call_of(heap: Global, text: &str) -> Result<Result<Call, UsageFault>, AllocEr
     for word in text.split(' ') {
         words.push(String::from_str(heap, word)?)?;
     }
-    Ok(read_call(heap, words.as_slice()))
+    Ok(read_call(heap, words.into_iter()))
 }
 
 #[test]
@@ -92,8 +92,10 @@ fn values(rt: HostRuntime) -> Result<(), Fail> {
     assert_eq!(rt; settings.frames, Some(3));
     assert_eq!(rt; settings.carrier, Some(CarrierKind::Folded));
     assert_eq!(rt; settings.entries, Some(99));
-    assert_eq!(rt; settings.times, [None, Some(5), None, None]);
-    assert_eq!(rt; settings.misses, [Some(2), None, None, None]);
+    let times = settings.parents.map(|parent| parent.time);
+    assert_eq!(rt; times, [None, Some(5), None, None]);
+    let misses = settings.parents.map(|parent| parent.miss);
+    assert_eq!(rt; misses, [Some(2), None, None, None]);
     assert!(rt; settings.verbose);
     Ok(())
 }
