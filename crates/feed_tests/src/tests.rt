@@ -121,15 +121,12 @@ fn taken(rt: HostRuntime) {
     let mut known = None;
     for (time, told) in TAKEN {
         known = Known::after(known, time, 1_000_000);
-        let expected = match told {
-            None => None,
-            Some((anchor, count, from, heard_to)) => Some(Known {
-                anchor,
-                count,
-                from,
-                heard_to,
-            }),
-        };
+        let expected = told.map(|(anchor, count, from, heard_to)| Known {
+            anchor,
+            count,
+            from,
+            heard_to,
+        });
         assert_eq!(rt; known, expected);
     }
 }

@@ -21,6 +21,16 @@ pub(crate) enum FileFault {
     SyncLost(u64),
 }
 
+impl FileFault {
+    // As the fault of a file that has this name.
+    pub(crate) fn of(self, name: &String) -> Fault {
+        match name.clone() {
+            Ok(name) => Fault::File(name, self),
+            Err(error) => Fault::Memory(error),
+        }
+    }
+}
+
 #[derive(Debug, Drop, Error)]
 pub(crate) enum Fault {
     #[error(transparent)]

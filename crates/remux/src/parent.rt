@@ -94,10 +94,7 @@ impl Parent {
 
     // The fault of this parent's file.
     pub(crate) fn blame(&self, fault: FileFault) -> Fault {
-        match self.name.clone() {
-            Ok(name) => Fault::File(name, fault),
-            Err(error) => Fault::Memory(error),
-        }
+        fault.of(&self.name)
     }
 
     // Whether its file ends in the middle of a packet, once all before it was heard.
@@ -142,6 +139,7 @@ impl Parent {
         rack: &mut Rack,
         rt: &HostRuntime,
     ) -> Result<(), FileFault> {
+        // A count of turns, since the check does not know that a file ends.
         for _ in 0..u64::MAX {
             if self.is_heard_to(end) || !self.source.has_next()? {
                 break;

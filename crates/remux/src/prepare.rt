@@ -37,15 +37,13 @@ pub(crate) fn remux(rt: &HostRuntime, options: &Options) -> Result<(), Fault> {
         CarrierKind::Folded => job.run(rt, &mut Output::<Folded>::new(heap, slots, sink)?)?,
     }
     // A file that ends in the middle of a packet is told of after all before it was used.
-    match job.parents.iter().find_map(|parent| parent.cut()) {
-        Some(fault) => Err(fault),
-        None => Ok(()),
-    }
+    let cut = job.parents.iter().find_map(|parent| parent.cut());
+    cut.map_or(Ok(()), Err)
 }
 
 // A run, ready to begin.
 fn prepare(rt: &HostRuntime, options: &Options) -> Result<Job, Fault> {
-    let config = read_config(rt, options.config.as_str())?;
+    let config = read_config(rt, &options.config)?;
     let settings = &options.settings;
     listed(&config, options)?;
     let slots = slots_for(&config, settings)?;
@@ -70,22 +68,14 @@ fn prepare(rt: &HostRuntime, options: &Options) -> Result<Job, Fault> {
     })
 }
 
-// A fault of the file with this name.
-fn blame(heap: Global, path: &str, fault: FileFault) -> Fault {
-    match String::from_str(heap, path) {
-        Ok(path) => Fault::File(path, fault),
-        Err(error) => Fault::Memory(error),
-    }
-}
-
 // The configuration in a file, checked.
-fn read_config(rt: &HostRuntime, path: &str) -> Result<Config, Fault> {
+fn read_config(rt: &HostRuntime, name: &String) -> Result<Config, Fault> {
     let heap = rt.alloc();
-    let text = fs::open(rt, path).and_then(|file| read_text(heap, file));
-    let text = text.map_err(|error| blame(heap, path, error.into()))?;
+    let text = fs::open(rt, name.as_str()).and_then(|file| read_text(heap, file));
+    let text = text.map_err(|error| FileFault::from(error).of(name))?;
     check(heap, text.as_slice()).try_map_err(|_| {
         let line = answer_line(heap, text.as_slice())?;
-        Ok(Fault::Config(String::from_str(heap, path)?, line))
+        Ok(Fault::Config(name.clone()?, line))
     })
 }
 
@@ -143,12 +133,11 @@ fn open_parents(
     config: &Config,
     options: &Options,
 ) -> Result<Vec<Parent>, Fault> {
-    let heap = rt.alloc();
-    let mut parents = Vec::new(heap);
+    let mut parents = Vec::new(rt.alloc());
     let files = options.parents.iter().zip(&options.settings.parents);
     for (number, ((file, settings), rate)) in files.zip(config.rates()).enumerate() {
         let source = Source::open(rt, file.as_str());
-        let source = source.map_err(|fault| blame(heap, file.as_str(), fault))?;
+        let source = source.map_err(|fault| fault.of(file))?;
         let name = file.clone()?;
         parents.push(Parent::new(name, number, *rate, source, settings.time))?;
     }

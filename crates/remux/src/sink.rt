@@ -1,5 +1,5 @@
 // The file that the multiplex goes to, written in large blocks.
-use crate::fault::Fault;
+use crate::fault::{Fault, FileFault};
 use std::alloc::AllocError;
 use std::fs::File;
 use std::io::{BufWriter, Write};
@@ -16,16 +16,10 @@ pub(crate) struct Sink {
 impl Sink {
     // A new file, in the place of one that has this name.
     pub(crate) fn create(rt: &HostRuntime, name: String) -> Result<Sink, Fault> {
-        match fs::create(rt, name.as_str()) {
-            Ok(file) => {
-                let file = BufWriter::with_capacity(rt.alloc(), BLOCK, file);
-                Ok(Sink {
-                    name,
-                    file: file.map_err(|_| AllocError)?,
-                })
-            }
-            Err(error) => Err(Fault::File(name, error.into())),
-        }
+        let file = fs::create(rt, name.as_str());
+        let file = file.map_err(|error| FileFault::from(error).of(&name))?;
+        let file = BufWriter::with_capacity(rt.alloc(), BLOCK, file).map_err(|_| AllocError)?;
+        Ok(Sink { name, file })
     }
 
     // Puts bytes behind all that were put before.
@@ -42,6 +36,6 @@ impl Sink {
 
     // A write's error as a fault of this file.
     fn told(&self, written: io::Result<()>) -> Result<(), Fault> {
-        written.try_map_err(|error| Ok(Fault::File(self.name.clone()?, error.into())))
+        written.map_err(|error| FileFault::from(error).of(&self.name))
     }
 }
