@@ -29,13 +29,13 @@ and_right_false false b h e = never false h refl
 abbrev pub Shared : Config → Memory Entry → Type 0
 Shared config m =
     (parents_in m ≡ vec_len config.rates)
-    × (size_in m ≡ min config.backlog (entries_in m))
+    × (size_in m ≡ min config.settings.backlog (entries_in m))
     × (room_in m ≡ line_room (setup config) (entries_in m))
 
 pub still_shared : (config : Config) (m m' : Memory Entry) → SameShares m m' → Shared config m → Shared config m'
 still_shared config m m' s h = (
   s.parents ∙ h.0,
-  s.size ∙ h.1 ∙ ap (min config.backlog) (sym s.entries),
+  s.size ∙ h.1 ∙ ap (min config.settings.backlog) (sym s.entries),
   s.room ∙ h.2 ∙ ap (line_room (setup config)) (sym s.entries),
 )
 

@@ -51,7 +51,7 @@ rise a hs all =
 pub backlog_whole : (a : Adapter) → AllWhole (backlog_in a.memory)
 backlog_whole a = ∥∥₁_elim a.reached (whole_prop (backlog_in a.memory)) (λ l. (fit (setup_of a) (entries_of a) l.0 (view a) l.1).backlog)
 
-pub doubt_low : (a : Adapter) → doubt_at (setup_of a) (view a).step ≤ a.config.backlog
+pub doubt_low : (a : Adapter) → doubt_at (setup_of a) (view a).step ≤ a.config.settings.backlog
 doubt_low a = ∥∥₁_elim a.reached le_prop (λ l. doubt_begins (setup_of a) (view a).step (fits (setup_of a) (entries_of a) l.1).small_doubt)
 
 known_line : (t : Option Times) (l : List Entry) → (t ≡ None → ⊥) → LineWhole (parent_of t l) → AllWhole l

@@ -32,7 +32,7 @@ pub struct Adapter {
     ghost places: { length heard ≡ 4 },
     // The memory is shared out as the configuration says.
     ghost parents: { parents_in memory ≡ vec_len config.rates },
-    ghost size: { size_in memory ≡ min config.backlog (entries_in memory) },
+    ghost size: { size_in memory ≡ min config.settings.backlog (entries_in memory) },
     ghost room: { room_in memory ≡ line_room (setup config) (entries_in memory) },
     // Nothing waits in the line of a parent without anchor.
     ghost quiet: { (p : ℕ) → slice_index_or heard p None ≡ None → length (line_in memory p) ≡ 0 },

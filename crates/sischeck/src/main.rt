@@ -4,23 +4,10 @@
 #![tactic(auto)]
 
 use anyhow::anyhow;
+use conffile::read_text;
 use config::answer::answer_line;
-use std::alloc::Global;
-use std::io::Read;
 use std::process::ExitCode;
-use std::{env, fs, io};
-
-// One byte more than a text may have, so that a longer one is seen to be too long and read no further.
-const ENOUGH: u64 = 16_385;
-
-fn read_some<R: Read>(heap: Global, source: R) -> io::Result<Vec<u8>>
-where
-    R: Drop,
-{
-    let mut text = Vec::new(heap);
-    source.take(ENOUGH).read_to_end(&mut text)?;
-    Ok(text)
-}
+use std::{env, fs};
 
 // Whether the text was accepted.
 fn run(rt: &HostRuntime) -> anyhow::Result<bool> {
@@ -28,8 +15,8 @@ fn run(rt: &HostRuntime) -> anyhow::Result<bool> {
     let mut words = env::args(rt)?;
     let _program = words.next();
     let text = match (words.next(), words.next()) {
-        (None, _) => read_some(heap, rt.stdin())?,
-        (Some(path), None) => read_some(heap, fs::open(rt, path.as_str())?)?,
+        (None, _) => read_text(heap, rt.stdin())?,
+        (Some(path), None) => read_text(heap, fs::open(rt, path.as_str())?)?,
         (Some(_), Some(_)) => return Err(anyhow!("usage: sischeck [FILE]")),
     };
     let line = answer_line(heap, text.as_slice())?;

@@ -32,7 +32,7 @@ place-course-requires g c =
     let first = due.called.oldest in
     let m₁ = c.begin-doubt.new.memory in
     let e = c.begin-doubt.ensures in
-    let roomy : a.config.backlog + length (vec_items a.config.rates) ≤ entries_in a.memory = due.called.roomy in record {
+    let roomy : a.config.settings.backlog + length (vec_items a.config.rates) ≤ entries_in a.memory = due.called.roomy in record {
       shared = e.rest.shares.size ∙ a.size ∙ omega arith;
       lines_in_order = lines_in_order (lines_in m₁) (rising_begun a f c.requires.placeable_now.rest due m₁ m₁ e.lines);
       few_wait = few a m₁ e.rest.shares;
@@ -59,8 +59,8 @@ module _ (g : given.Over) (c : After-after-self g) where
       (parents_left a c.args.frame c.requires.placeable_now.rest c.requires.placeable_now.due c.begin-doubt.new.memory c.place-course.new.memory c.begin-doubt.ensures.lines c.restart.new.heard _ ends c.restart.ensures p.lines)
       (c.done.ensures.waits ∙ ap (drop 1) c.requires.placeable_now.due.called.oldest)
       c.done.ensures.last
-      (p.backlog ∙ ap (waiting a.config.backlog (turns_of_lines (setup_of a) c.args.frame (lines_in c.begin-doubt.new.memory))) c.begin-doubt.ensures.rest.backlog
-      ∙ ap (λ ts. waiting a.config.backlog ts (backlog_in a.memory)) (turns_are a c.args.frame c.requires.placeable_now.rest c.requires.placeable_now.due c.begin-doubt.new.memory c.begin-doubt.new.memory c.begin-doubt.ensures.lines))
+      (p.backlog ∙ ap (waiting a.config.settings.backlog (turns_of_lines (setup_of a) c.args.frame (lines_in c.begin-doubt.new.memory))) c.begin-doubt.ensures.rest.backlog
+      ∙ ap (λ ts. waiting a.config.settings.backlog ts (backlog_in a.memory)) (turns_are a c.args.frame c.requires.placeable_now.rest c.requires.placeable_now.due c.begin-doubt.new.memory c.begin-doubt.new.memory c.begin-doubt.ensures.lines))
       c.after-self.ensures
 
   -- the packets of the frame
@@ -89,8 +89,8 @@ module _ (g : given.Over) (c : After-after-self g) where
       c.place-course.result.drops c.place-course.result.doubt c.place-course.result.zero b₁ c.begin-doubt.ensures.rest.backlog
       c.requires.places_free
       p.counts
-      (p.doubts ∙ ap (doubt a.config.backlog ts) c.begin-doubt.ensures.doubt)
-      (p.zero ∙ ap (reaches_zero a.config.backlog ts) c.begin-doubt.ensures.doubt)
+      (p.doubts ∙ ap (doubt a.config.settings.backlog ts) c.begin-doubt.ensures.doubt)
+      (p.zero ∙ ap (reaches_zero a.config.settings.backlog ts) c.begin-doubt.ensures.doubt)
       (goes_means g.C.Carrier.meaning (adds_in a.step) _ _ _ goes)
       left)
 
