@@ -3,10 +3,9 @@ use Rattle.std.proofs.Common.{◌≡◌, ℕ, suc, ◌+◌, ◌-◌, ◌*◌, �
 use native.Mathlib.Nat.{mul-div-le}
 use Rattle.std.proofs.lemmas.List.{set_past, set-get_or, drop-drop, ext_get_or, get_or_past, get_or-set_other, get_or-set_same, get_or-take, length-drop, length-set, length-take, take-replicate}
 use Rattle.std.proofs.lemmas.Bool.{cases_eq, cases_lt, cases_order}
-use Rattle.std.specs.List.Sorted.{IsNonDecreasingBy}
 use Rattle.std.specs.declared.alloc.Global.{Global}
 use Rattle.waiting.proofs.Rounds.{length_waits}
-use Rattle.waiting.specs.Waiting.{waits, not_before}
+use Rattle.waiting.specs.Waiting.{waits}
 use Rattle.waiting.specs.declared.Line.{Line}
 use Rattle.memory.proofs.Regions.{Apart, side_none, length_side, get_or_side, written, written_here, written_apart, written_behind, rest_is}
 use Rattle.memory.specs.Memory.{entries_in, size_in, parents_in, room_in, start_in, side_by_side, lines_in, line_in, backlog_in, Region, SameShares, OnlyLines, OnlyBacklog}

@@ -1,11 +1,11 @@
 -- Where moments rise, what is left at the front is all that is not before. Assumes nothing.
-use Rattle.std.proofs.Common.{◌≡◌, ℕ, suc, ◌≤◌, Bool, true, ltb, leb, List, [], ◌∷◌, IfSome, filter, Option, sym, refl, ap, ◌∙◌, subst, ⊎_elim, arith}
+use Rattle.std.proofs.Common.{◌≡◌, ℕ, suc, Bool, true, ltb, leb, List, [], ◌∷◌, filter, sym, refl, ap, ⊎_elim, arith}
 use Rattle.std.proofs.ByRecursion.{All-from_get_or}
 use Rattle.std.proofs.lemmas.List.Sorted.{IsNonDecreasingBy-drop}
 use Rattle.std.proofs.lemmas.Bool.{cond_both, cases_lt, lt-ltb, le-ltb, le-leb, lt-leb}
 use Rattle.std.specs.List.{AllByRecursion as All}
 use Rattle.std.specs.List.Sorted.{IsNonDecreasingBy}
-use Rattle.waiting.specs.Waiting.{oldest, from_on, not_before}
+use Rattle.waiting.specs.Waiting.{from_on, not_before}
 
 module _ {T : Type 0} where
   kept_by_all : (p : T → Bool) (xs : List T) → All (λ x. p x ≡ true) xs → filter p xs ≡ xs

@@ -1,9 +1,11 @@
 -- A memory ms in two parts, before the cut and from it on: m is where they meet. Assumes nothing.
 use Rattle.std.proofs.Common.{◌≡◌, ℕ, ◌-◌, ◌<◌, ◌≤◌, min, List, ◌++◌, length, take, drop, vec_items, vec_len, sym, ap, ◌∙◌, ⊎_elim, arith}
-use Rattle.std.proofs.lemmas.List.{append-nil, length-append, length-drop, length-take, take_all, drop_all, take_at, drop_at, nil_from_length}
+use Rattle.std.proofs.lemmas.List.{append-nil, length-append, length-drop, length-take, take_all, drop_all, take_at, drop_at, nil_from_length, with_items_is}
+use Rattle.std.specs.Vec.{with_items}
 use Rattle.std.proofs.lemmas.Bool.{cases_lt}
 use Rattle.std.proofs.lemmas.Slice.{between_to_end}
 use Rattle.waiting.specs.Waiting.{waits}
+use Rattle.waiting.specs.declared.Line.{Line}
 use Rattle.waiting_tests.specs.Hall.{front_seats, back_seats, in_front, at_back}
 use Rattle.waiting_tests.specs.declared.elements.Packet.{Packet}
 use Rattle.waiting_tests.specs.declared.hall.Hall.{Hall}
@@ -81,3 +83,46 @@ module _ (hall : Hall) (m : ℕ) (ms : List Packet) (is-min : m ≡ min hall.cut
 
     pub back_seats_seen : length (take (n - m) (drop m ms)) ≡ length (back_seats hall)
     back_seats_seen = ap length back_here
+
+  -- after a packet sat down in front, whose seats now hold ys
+  module _ (ys : List Packet) (same : length ys ≡ length (take m ms)) where
+    long : length ys ≡ m
+    long = omega (arith, as_many, simp length-take at same)
+
+    front_stored : vec_items (with_items hall.memory (ys ++ drop m ms)) ≡ ys ++ drop m ms
+    front_stored = with_items_is hall.memory (ys ++ drop m ms) (simp (length-append, length-drop) (omega (arith, as_many, long, ap length is-ms, hall.memory.ok.0)))
+
+    pub front_joined : (line : Line Packet) → waits line (take hall.cut (vec_items (with_items hall.memory (ys ++ drop m ms)))) ≡ waits line ys
+    front_joined line = ap (waits line) (ap (take hall.cut) front_stored ∙ front_after_front ms hall.cut m as_many ys long)
+
+    pub back_stays : waits hall.back (drop hall.cut (vec_items (with_items hall.memory (ys ++ drop m ms)))) ≡ at_back hall
+    back_stays = ap (waits hall.back) (ap (drop hall.cut) front_stored ∙ back_after_front ms hall.cut m as_many ys long ∙ ap (drop hall.cut) is-ms)
+
+  -- after one sat down at the back
+  module _ (n : ℕ) (all : length ms ≤ n) (ys : List Packet) (same : length ys ≡ length (take (n - m) (drop m ms))) where
+    rest : List Packet
+    rest = drop (n - m) (drop m ms)
+
+    last : length rest ≡ 0
+    unfolding rest
+    last = simp length-drop (omega (arith, all))
+
+    full : length ys ≡ length ms - m
+    full = omega (arith, as_many, all, simp (length-take, length-drop) at same)
+
+    back_stored : vec_items (with_items hall.memory (take m ms ++ (ys ++ rest))) ≡ take m ms ++ (ys ++ rest)
+    back_stored = with_items_is hall.memory (take m ms ++ (ys ++ rest)) (simp (length-append, length-take, last) (omega (arith, as_many, full, ap length is-ms)))
+
+    pub front_stays : waits hall.front (take hall.cut (vec_items (with_items hall.memory (take m ms ++ (ys ++ drop (n - m) (drop m ms)))))) ≡ in_front hall
+    unfolding rest
+    front_stays = ap (waits hall.front) (ap (take hall.cut) back_stored ∙ front_after_back ms hall.cut m as_many ys rest full last ∙ ap (take hall.cut) is-ms)
+
+    pub back_joined : (line : Line Packet) → waits line (drop hall.cut (vec_items (with_items hall.memory (take m ms ++ (ys ++ drop (n - m) (drop m ms)))))) ≡ waits line ys
+    unfolding rest
+    back_joined line = ap (waits line) (ap (drop hall.cut) back_stored ∙ back_after_back ms hall.cut m as_many ys rest full last)
+
+-- what a call in front knows of both lines, before and after
+pub ruleset of_the_front = (front_seen, front_seats_seen, front_joined, back_stays)
+
+-- and a call at the back
+pub ruleset of_the_back = (back_seen, back_seats_seen, back_joined, front_stays)

@@ -41,7 +41,7 @@ impl Hall {
     }
 
     // Takes its place in the front line, where a seat is free; the back line stays as it is.
-    #[tactic(auto, using(crate::proofs::Seats::front_seen, crate::proofs::Seats::front_seats_seen))]
+    #[tactic(auto, using(crate::proofs::Seats::of_the_front))]
     pub fn join_front(&mut self, packet: Packet) -> Result<(), Full>
         ensures test { is_ok result ≡ nat_lt (length (in_front self.old)) (length (front_seats self.old)) }
         ensures front { in_front self.new ≡ (if is_ok result then in_front self.old ++ packet ∷ [] else in_front self.old) }
@@ -52,7 +52,7 @@ impl Hall {
     }
 
     // Takes its place in the back line, where a seat is free; the front line stays as it is.
-    #[tactic(auto, using(crate::proofs::Seats::back_seen, crate::proofs::Seats::back_seats_seen))]
+    #[tactic(auto, using(crate::proofs::Seats::of_the_back))]
     pub fn join_back(&mut self, packet: Packet) -> Result<(), Full>
         ensures test { is_ok result ≡ nat_lt (length (at_back self.old)) (length (back_seats self.old)) }
         ensures front { in_front self.new ≡ in_front self.old }
@@ -64,7 +64,7 @@ impl Hall {
     }
 
     // The first of the front line goes; the back line stays as it is.
-    #[tactic(auto, using(crate::proofs::Seats::front_seen))]
+    #[tactic(auto, using(crate::proofs::Seats::of_the_front))]
     pub fn take_front(&mut self) -> Option<Packet>
         ensures value { result ≡ oldest (in_front self.old) }
         ensures front { in_front self.old ≡ option_to_list result ++ in_front self.new }
@@ -75,7 +75,7 @@ impl Hall {
     }
 
     // The first of the back line goes; the front line stays as it is.
-    #[tactic(auto, using(crate::proofs::Seats::back_seen))]
+    #[tactic(auto, using(crate::proofs::Seats::of_the_back))]
     pub fn take_back(&mut self) -> Option<Packet>
         ensures value { result ≡ oldest (at_back self.old) }
         ensures front { in_front self.new ≡ in_front self.old }
