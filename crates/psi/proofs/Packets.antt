@@ -1,9 +1,9 @@
 -- What good packets, stuffing and a changed PID are made of.
-use Rattle.std.proofs.Common.{◌≡◌, ℕ, ◌-◌, ◌<◌, ◌≤◌, true, false, ◌≢◌, length, replicate, is_some, Some, None, sym, refl, ap, ◌∙◌, ⊎_elim, arith, length-append, length-set, get_or-set_other}
+use Rattle.std.proofs.Common.{◌≡◌, ℕ, ◌-◌, ◌<◌, ◌≤◌, true, false, ◌≢◌, length, replicate, is_some, Some, None, sym, ap, ◌∙◌, ⊎_elim, arith, length-append, length-set, get_or-set_other}
 use lib.ListN.{length-replicate}
-use Rattle.std.proofs.lemmas.Bool.{and_parts, and_from, eqb-true, eq-eqb, ltb-true, lt-ltb, cond-true, cond-false, cases_Bool, true≢false, false≢true}
+use Rattle.std.proofs.lemmas.Bool.{and_parts, and_from, eqb-true, eq-eqb, ltb-true, lt-ltb, cond-true, cond-false, cases_Bool, true≢false}
 use Rattle.psi.specs.declared.packet.Head.{Head}
-use Rattle.psi.specs.Packet.{Bytes, byte, good_packet, head_of, start_of, pid_of, scrambling_of, adaptation_of, counter_of, with_pid, stuffing, filled, Framed}
+use Rattle.psi.specs.Packet.{Bytes, byte, good_packet, head_of, start_of, pid_of, scrambling_of, adaptation_of, counter_of, with_pid, filled, Framed}
 
 -- 188 bytes, the sync byte first, no error
 pub record Good (x : Bytes) : Type 0 where

@@ -7,13 +7,12 @@ use Rattle.config.specs.declared.row.Row.{Row}
 use Rattle.config.specs.declared.row.Kind.{Kind}
 use Rattle.config.specs.declared.row.Kind.TheVariants.{Pass, Pmt}
 use Rattle.config.specs.Rows.{is_pmt, pmts, most_service, RowsInRange}
-use Rattle.config.specs.Setup.{Setup}
 use Rattle.psi.specs.Packet.{Bytes, pid_in, pid_high, filled, Framed}
 use Rattle.psi.specs.Crc.{sealed, four_bytes, crc_of}
 use Rattle.psi.specs.Sections.{length_in, length_high, with_length, closed}
 use Rattle.psi.proofs.Crcs.{length_sealed}
 use Rattle.psi.proofs.Packets.{filled_long}
-use Rattle.psi.specs.Pat.{program_entry, programs, pat_section, pat_packet, pat_copy, pairs, pairs_of, services}
+use Rattle.psi.specs.Pat.{program_entry, programs, pat_section, pat_packet, pairs, pairs_of, services}
 
 -- the `pmt` rows, as a count of the rows that pass a test
 pub pmts_counted : (rows : List Row) → pmts rows ≡ count_by (λ row. is_pmt row.kind) rows

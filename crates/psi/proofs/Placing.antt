@@ -1,8 +1,8 @@
 -- What a place holds after a write.
-use Rattle.std.proofs.Common.{◌≡◌, ℕ, zero, suc, ◌+◌, ◌-◌, ◌%◌, ◌<◌, ◌≤◌, [], ◌∷◌, ◌++◌, length, get_or, take, drop, set, replicate, sym, refl, ap, ◌∙◌, append_assoc, le_of_suc-le-suc, not-suc-le-zero, arith, lit≤, length-append, length-drop, length-set, take-append-drop, length-take}
+use Rattle.std.proofs.Common.{◌≡◌, ℕ, zero, suc, ◌+◌, ◌-◌, ◌%◌, ◌<◌, ◌≤◌, [], ◌∷◌, ◌++◌, length, get_or, take, drop, set, replicate, sym, refl, ap, ◌∙◌, append_assoc, le_of_suc-le-suc, not-suc-le-zero, arith, lit≤, length-append, length-drop, take-append-drop, length-take}
 use borrow.Rule.Slice.PartMut.{put_mid}
-use Rattle.std.proofs.lemmas.List.{drop-drop, drop-replicate, drop_at, drop-set-lt, drop-set-add, take-set-le, length-take-le, get_or-drop, get_or-take}
-use Rattle.std.proofs.lemmas.Slice.{take-put_mid, drop-put_mid}
+use Rattle.std.proofs.lemmas.List.{drop-drop, drop-replicate, drop_at, drop-set-add, take-set-le, length-take-le, get_or-drop, get_or-take}
+use Rattle.std.proofs.lemmas.Slice.{drop-put_mid}
 use Rattle.psi.specs.Packet.{Bytes, byte}
 use Rattle.psi.specs.Crc.{crc_of, four_bytes, sealed}
 use Rattle.psi.specs.Sections.{length_high, with_length, closed}
@@ -32,12 +32,6 @@ module _ (bytes : Bytes) (len k : ℕ) (more ys : Bytes) (is : ys ≡ more) (sam
             ∙ ap (λ m. replicate m 0xFF) (omega arith);
       }
 
-  pub placed_written : take (len + length more) (put_mid len k bytes ys) ≡ take len bytes ++ more
-  placed_written =
-      let all = h.long in
-      let n = long_more in
-      take-put_mid len k bytes ys (len + length more) (omega arith) (omega arith) ∙ ap (λ l. take len bytes ++ l) is
-
 -- a write within the front
 take_set_in : (n i : ℕ) (l : Bytes) (a : ℕ) → i < n → take n (set l i a) ≡ set (take n l) i a
 take_set_in zero i l a h = absurd (not-suc-le-zero h)
@@ -52,14 +46,6 @@ behind_five w a b =
     ∙ (λ i. (take-set-le 5 (set w 6 a) 7 b (lit≤ tt) ∙ take-set-le 5 w 6 a (lit≤ tt)) i ++ (drop-set-add 5 (set w 6 a) 2 b ∙ ap (λ l. set l 2 b) (drop-set-add 5 w 1 a)) i)
 
 module _ (bytes : Bytes) (len a b : ℕ) (h : Placed bytes len) (some : 8 ≤ len) where
-  pub set_placed : Placed (set (set bytes 6 a) 7 b) len
-  set_placed =
-      record {
-        within = h.within;
-        long = simp length-set h.long;
-        blank = drop-set-lt len (set bytes 6 a) 7 b (omega arith) ∙ drop-set-lt len bytes 6 a (omega arith) ∙ h.blank;
-      }
-
   set_written : take len (set (set bytes 6 a) 7 b) ≡ take 5 (take len bytes) ++ set (set (drop 5 (take len bytes)) 1 a) 2 b
   set_written =
       take_set_in len 7 (set bytes 6 a) b (omega arith) ∙ ap (λ l. set l 7 b) (take_set_in len 6 bytes a (omega arith)) ∙ behind_five (take len bytes) a b

@@ -26,6 +26,7 @@ pub enum Delivered {
 }
 
 // What the map makes of a parent's packet.
+#[tactic(auto, unfolding(crate::specs::Delivery::deliver))]
 pub fn deliver(config: &Config, parent: u8, packet: &[u8]) -> Result<Delivered, BadPacket>
     ensures value { answer result ≡ (if good_packet packet.now then Some (delivery_of (setup config.now) parent packet.now) else None) }
     ensures leaves { IfSome (answer result) (Leaves (setup config.now).rows) }

@@ -65,6 +65,7 @@ impl Adaptation {
 }
 
 // Stuffing: what a slot takes that has nothing else to take.
+#[tactic(auto, unfolding(crate::specs::Packet::stuffing))]
 pub fn stuffing() -> [u8; LENGTH]
     ensures value { result ≡ stuffing_bytes }
     ensures framed { Framed result }
