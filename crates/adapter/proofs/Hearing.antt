@@ -29,10 +29,6 @@ pub delivered_good : (b : Bool) (d d' : Delivery) → Some d ≡ cond b (Some d'
 delivered_good true d d' e = (refl, cc)
 delivered_good false d d' e = let z : ◌≡◌ {A = ℕ} 0 1 = cc in absurd (omega arith)
 
-pub bad_packet : (b : Bool) (d : Delivery) → None ≡ cond b (Some d) None → b ≡ false
-bad_packet true d e = let z : ◌≡◌ {A = ℕ} 0 1 = cc in absurd (omega arith)
-bad_packet false d e = refl
-
 not_nine : {A : Type 0} (h : Heard) → hear_answer (Ok h) ≡ refused_hear 9 → A
 not_nine PassedOver e = let z : ◌≡◌ {A = ℕ} 0 1 = cc in absurd (omega arith)
 not_nine Dropped e = let z : ◌≡◌ {A = ℕ} 0 1 = cc in absurd (omega arith)

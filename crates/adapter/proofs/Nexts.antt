@@ -25,9 +25,6 @@ Best limit n ls bound (Some p) = (e : Entry) × (bound ≡ e.arrival) × First-i
 never_some : {A : Type 0} {o : Option Entry} {d : Entry} → o ≡ None → o ≡ Some d → A
 never_some p q = let z : ◌≡◌ {A = ℕ} 0 1 = cc in absurd (omega arith)
 
-pub best_start : (limit : ℕ) (ls : List (List Entry)) → Best limit 0 ls limit None
-best_start limit ls = (refl, λ q d k e. absurd (omega arith))
-
 -- line n is empty
 pub best_empty : (limit n : ℕ) (ls : List (List Entry)) (bound : ℕ) (o : Option ℕ) → Best limit n ls bound o → first_of ls n ≡ None → Best limit (n + 1) ls bound o
 best_empty limit n ls bound None h e = (h.0, none_earlier_more limit n ls h.1 (λ d k. never_some e k))

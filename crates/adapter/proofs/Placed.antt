@@ -1,5 +1,5 @@
 -- A frame that was placed, by the rule of `frame`.
-use Rattle.std.proofs.Common.{◌≡◌, ℕ, ◌≤◌, Bool, true, false, List, [], ◌∷◌, map, length, drop, Some, Option, sym, refl, ap, ◌∙◌, subst}
+use Rattle.std.proofs.Common.{◌≡◌, ℕ, ◌≤◌, Bool, true, false, List, [], ◌∷◌, map, length, Some, Option, sym, refl, ap, ◌∙◌, subst}
 use Rattle.std.proofs.lemmas.List.{length-map}
 use Rattle.config.specs.Setup.{Setup}
 use Rattle.carrier.specs.Meaning.{Meaning}
@@ -81,9 +81,6 @@ placed_by c n ps rs last b (Following e) f rest hs s' k k' x d z due room drops 
     goes
 placed_by c n ps rs last b InStep f rest hs s' k k' x d z due room drops doubts zeros goes is =
     calls.Frames.adds f rest hs due refl (room refl) (ap (calls.added f.number) drops) is goes
-
-rest_of : (fs : List Frame) (f : Frame) (rest : List Frame) → fs ≡ f ∷ rest → drop 1 fs ≡ rest
-rest_of fs f rest e = ap (drop 1) e
 
 cut_lines : (m : ℕ) (hs : List Hearing) (ls : List (List Entry)) → map (λ (h : Hearing). h.line) hs ≡ ls → map (λ h. from_on m h.line) hs ≡ map (from_on m) ls
 cut_lines m hs ls e = each hs ∙ ap (map (from_on m)) e

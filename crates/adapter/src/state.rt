@@ -20,6 +20,7 @@ mod made;
 mod recorded;
 
 // An adapter: made from a checked configuration and its memory, which it keeps.
+// That each call keeps them is a clause of each, `KeptSetup`: a ghost field speaks of one moment only.
 #[derive(Drop)]
 pub struct Adapter {
     config: Config,

@@ -51,7 +51,7 @@ fn admit_one(config: &Config, memory: &mut Memory<Entry>, p: usize, course: Cour
     Course {
         drops,
         doubt,
-        zero: course.zero,
+        ..course
     }
 }
 
@@ -106,9 +106,9 @@ pub(crate) fn fill(
         None => (front_or_stuffing(memory), course.doubt.saturating_sub(1)),
     };
     let course = Course {
-        drops: course.drops,
         doubt,
         zero: course.zero || doubt == 0,
+        ..course
     };
     (packet, course)
 }
