@@ -1,10 +1,12 @@
 -- The used bytes of a store, and the places of a carrier that has its bytes in one.
-use Rattle.std.proofs.Common.{◌≡◌, ℕ, ◌+◌, ◌/◌, ◌%◌, ◌^◌, ◌<◌, List, [], ◌∷◌, ◌++◌, length, take, vec_items, sym, ap, ◌∙◌, arith}
+use Rattle.std.proofs.Common.{◌≡◌, ℕ, ◌+◌, ◌/◌, ◌%◌, ◌<◌, List, [], ◌∷◌, ◌++◌, length, take, vec_items, sym, ap, ◌∙◌, arith}
 use native.Mathlib.Nat.{add-div_right}
 use Rattle.std.proofs.lemmas.List.{length-take-le}
 use Rattle.psi.specs.Packet.{Bytes}
 use Rattle.carrier.specs.declared.store.Store.{Store}
 use Rattle.carrier.specs.Meaning.{Carried, vacant}
+use Rattle.carrier.specs.Pieces.{cut}
+use Rattle.carrier.proofs.Cuts.{cut_none}
 use Rattle.carrier.specs.Stores.{size, unused, written, housed}
 
 pub length_written : (s : Store) → length (written s) ≡ s.used
@@ -12,9 +14,6 @@ length_written s = length-take-le s.used (vec_items s.bytes) (omega (arith, s.wi
 
 pub none_written : (s : Store) → s.used ≡ 0 → written s ≡ []
 none_written s none = ap (λ n. take n (vec_items s.bytes)) none
-
-pub used_small : (s : Store) → s.used < 2 ^ 63
-used_small s = omega (arith, s.within, s.bytes.ok.1, s.bytes.small)
 
 pub whole_written : (n : ℕ) (s : Store) → s.used % n ≡ 0 → length (written s) % n ≡ 0
 whole_written n s whole = ap (λ m. m % n) (length_written s) ∙ whole
@@ -36,3 +35,7 @@ module _ (n : ℕ) (some : 0 < n) (s t : Store) (same : size t ≡ size s) (more
   housed_carried x ps qs is =
       let taken = one_taken in
       record { packets = is; capacity = ap (λ m. m / n) same; at_most = omega arith; no_more = omega arith }
+
+-- an empty strip
+pub strip_vacant : (s : Store) (b : ℕ) → size s ≡ b → s.used ≡ 0 → housed 188 s (cut 188 (written s)) ≡ vacant (b / 188)
+strip_vacant s b long unwritten = housed_none 188 s _ b (ap (cut 188) (none_written s unwritten) ∙ cut_none 188) long unwritten

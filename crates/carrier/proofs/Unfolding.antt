@@ -6,13 +6,14 @@ use Rattle.std.specs.List.{flat_map}
 use Rattle.std.proofs.lemmas.List.{append_assoc, append-nil, flat_map_more, take_at, drop_at, drop-drop, get_or_at, get_or-drop, get_or-replicate, get_or_append_left, replicate_more, length_push}
 use Rattle.std.proofs.lemmas.Bool.{lt-ltb}
 use Rattle.psi.specs.Packet.{Bytes, byte, stuffing}
-use Rattle.carrier.specs.Pieces.{pieces, cut}
+use Rattle.std.specs.Simd.{first_chunks}
+use Rattle.carrier.specs.Pieces.{cut}
 use Rattle.carrier.specs.Folds.{opened, unfolded, with_pending}
 use Rattle.carrier.proofs.Cuts.{cut_push, cut_first}
 
 unfolded_none : (bs : Bytes) → length bs < 189 → unfolded bs ≡ []
 unfolding unfolded cut
-unfolded_none bs short = ap (λ k. flat_map opened (pieces 189 k bs)) (div-eq_of_lt short)
+unfolded_none bs short = ap (λ k. flat_map opened (first_chunks 189 k bs)) (div-eq_of_lt short)
 
 unfolded_first : (fold rest : Bytes) → length fold ≡ 189 → unfolded (fold ++ rest) ≡ opened fold ++ unfolded rest
 unfolding unfolded

@@ -6,6 +6,7 @@ ghost use Rattle.psi.specs.Packet.{Framed};
 ghost use Rattle.carrier.specs.Meaning.{Meaning, Carried, vacant, number_of, refusal, refusal_in};
 
 use psi::packet::LENGTH;
+use std::fmt;
 
 mod folded;
 mod store;
@@ -24,7 +25,7 @@ pub enum PutFault {
 }
 
 impl PutFault {
-    // The number of the refusal.
+    // The number of the refusal. A method and no `From`: `fault.number()` says which number it is, and `u8::from(fault)` does not.
     pub fn number(self) -> u8
         ensures { result ≡ number_of self }
     {
@@ -34,6 +35,20 @@ impl PutFault {
         }
     }
 }
+
+impl fmt::Display for PutFault {
+    ghost use Rattle.std.specs.Prelude.{◌++◌, Some, codes};
+    ghost use Rattle.std.specs.Fmt.{decimal};
+    ghost use Rattle.carrier.specs.Meaning.{number_of};
+
+    ghost output = { λ fault. Some (codes "refused " ++ decimal (number_of fault)) };
+
+    fn fmt<W: fmt::Write>(&self, f: &mut fmt::Formatter<W>) -> fmt::Result {
+        write!(f, "refused {}", self.number())
+    }
+}
+
+impl std::error::Error for PutFault {}
 
 // Takes packets as long as it has a free place, and holds them in their order.
 pub trait Carrier {
@@ -51,6 +66,7 @@ pub trait Carrier {
         ensures { meaning self.new ≡ vacant (meaning self.old).capacity };
 
     // Copies packet `i`, counted from 0, into a place. Past the end it answers `None`, and the place stays as it is.
+    // The place is the caller's, and no packet is handed back by value, since C hands a place to write.
     fn read(&self, i: usize, place: &mut [u8; 188]) -> Option<()>
         ensures test { is_some result ≡ nat_lt i (length (meaning self.now).packets) }
         ensures after { place.new ≡ slice_index_or (meaning self.now).packets i place.old };

@@ -45,7 +45,7 @@ impl Folded {
 impl Carrier for Folded {
     ghost meaning = { folded_meaning };
 
-    // Stuffing that is left out takes no place; every other packet takes one.
+    // Stuffing that is left out takes no place; every other packet takes one. An impl that promises more than its trait says the trait's clauses again.
     fn put(&mut self, packet: &[u8]) -> Result<(), PutFault>
         ensures answer { refusal_in result ≡ refusal packet.now (folded_meaning self.old).free }
         ensures same { OnErr result (self.new ≡ self.old) }
@@ -73,7 +73,7 @@ impl Carrier for Folded {
         self.held = 0;
     }
 
-    // Walks from fold to fold: `left` packets are still to be passed.
+    // Walks from fold to fold: `left` packets are still to be passed. A fold of a chain would carry `left` and the place written in one, so a loop is plainer.
     fn read(&self, i: usize, place: &mut [u8; 188]) -> Option<()> {
         let mut left = i;
         for fold in self.bytes().chunks_exact(FOLD) {

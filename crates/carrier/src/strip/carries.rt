@@ -31,7 +31,7 @@ impl Strip {
 impl Carrier for Strip {
     ghost meaning = { strip_meaning };
 
-    // Each packet takes one place.
+    // Each packet takes one place. An impl that promises more than its trait says the trait's clauses again.
     fn put(&mut self, packet: &[u8]) -> Result<(), PutFault>
         ensures answer { refusal_in result ≡ refusal packet.now (strip_meaning self.old).free }
         ensures same { OnErr result (self.new ≡ self.old) }
@@ -47,12 +47,10 @@ impl Carrier for Strip {
         self.store.clear();
     }
 
+    #[tactic(auto, unfolding(crate::specs::Pieces::cut))]
     fn read(&self, i: usize, place: &mut [u8; 188]) -> Option<()> {
-        if i >= self.held() {
-            return None;
-        }
-        let at = i * LENGTH;
-        place.copy_from_slice(&self.bytes()[at..at + LENGTH]);
+        let (packets, _) = self.bytes().as_chunks::<LENGTH>();
+        *place = *packets.get(i)?;
         Some(())
     }
 
@@ -64,6 +62,7 @@ impl Carrier for Strip {
         self.store.size() / LENGTH
     }
 
+    #[tactic(auto, using(crate::proofs::Cuts::length_cut))]
     fn held(&self) -> usize {
         self.bytes().len() / LENGTH
     }

@@ -1,5 +1,5 @@
-use Rattle.std.proofs.Common.{◌%◌, length, sym, refl, ap, arith}
-use Rattle.carrier.proofs.Stored.{none_written, housed_none}
+use Rattle.std.proofs.Common.{◌%◌, length, sym, ap, arith}
+use Rattle.carrier.proofs.Stored.{none_written}
 use Rattle.carrier.proofs.Unfolding.{none_pending}
 use Rattle.carrier.proofs.folded.carries.FoldedCarrier.empty.Goals as goal
 
@@ -8,9 +8,3 @@ invariant_of-self c =
     let s = c.clear.new.self in
     let none = c.clear.ensures.used in
     record { whole = ap (λ n. n % 189) none; counted = sym (ap length (none_pending _ (none_written s none))); bounded = omega arith }
-
-pub returns : goal.returns
-returns c =
-    let s = c.clear.new.self in
-    let none = c.clear.ensures.used in
-    record { meaning = housed_none 189 s _ _ (none_pending _ (none_written s none)) c.clear.ensures.size none; blank = record { bytes = none_written s none; pending = refl } }

@@ -1,4 +1,4 @@
-use Rattle.std.proofs.Common.{◌+◌, [], ◌∷◌, ◌++◌, length, sym, refl, ap, ◌∙◌, append_assoc, arith, rules}
+use Rattle.std.proofs.Common.{◌+◌, [], ◌∷◌, ◌++◌, length, sym, refl, ap, ◌∙◌, append_assoc, arith}
 use Rattle.std.proofs.lemmas.List.{length_push}
 use Rattle.carrier.specs.Stores.{written}
 use Rattle.carrier.proofs.Growth.{Grown, goes, stays, grown_whole, grown_bounded, grown_packets, grown_carried, grown_bytes, grown_pending, grown_places}
@@ -34,14 +34,11 @@ invariant_of-self c =
       bounded = grown_bounded g f.held f.bounded (omega arith);
     }
 
-pub returns : goal.returns
-returns c =
-    let f = c.args.self.now in
-    let g = grown (goal.at.returns c).Joined-leaves_out in
-    let admitted = c.in_ok-admit.ensures in
-    record {
-      answer = search rules;
-      same = tt;
-      taken = grown_carried g admitted.framed.long f.whole;
-      folds = record { bytes = grown_bytes g; pending = grown_pending g; places = grown_places g };
-    }
+pub returns-clause-taken : goal.returns-clause-taken
+returns-clause-taken c =
+    grown_carried (grown (goal.at.returns-clause-taken c).Joined-leaves_out) c.in_ok-admit.ensures.framed.long c.args.self.now.whole
+
+pub returns-clause-folds : goal.returns-clause-folds
+returns-clause-folds c =
+    let g = grown (goal.at.returns-clause-folds c).Joined-leaves_out in
+    record { bytes = grown_bytes g; pending = grown_pending g; places = grown_places g }
