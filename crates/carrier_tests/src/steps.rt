@@ -29,21 +29,17 @@ pub enum Step {
 
 fn data(byte: u8) -> [u8; 188] {
     let mut packet = [byte; 188];
-    packet[0] = 0x47;
-    packet[1] = 0x02;
-    packet[2] = 0x00;
-    packet[3] = 0x10;
+    packet[..4].copy_from_slice(&[0x47, 0x02, 0x00, 0x10]);
     packet
 }
 
 pub(crate) fn bytes_of(kind: Kind) -> [u8; 188] {
     let mut packet = stuffing();
     match kind {
-        Kind::Stuffing => {}
+        Kind::Stuffing | Kind::Short => {}
         Kind::OtherNull => packet[187] = 0,
         Kind::Data(byte) => packet = data(byte),
         Kind::Unsynced => packet[0] = 0x48,
-        Kind::Short => {}
     }
     packet
 }

@@ -58,6 +58,18 @@ fn refusals_have_numbers(rt: HostRuntime) {
 }
 
 #[test]
+fn refusals_print_their_numbers(rt: HostRuntime) -> Result<(), Fail> {
+    let texts = [
+        (PutFault::NoPacket, "refused 15"),
+        (PutFault::NoPlace, "refused 16"),
+    ];
+    for (fault, text) in texts {
+        assert_eq!(rt; fault.to_string(rt.alloc())?.as_str(), text);
+    }
+    Ok(())
+}
+
+#[test]
 fn a_strip_is_emptied_and_filled_again(rt: HostRuntime) -> Result<(), Fail> {
     let mut strip = Strip::new(vec![in rt.alloc(); 0; 3 * 188]?);
     follow(
