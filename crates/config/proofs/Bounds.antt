@@ -1,5 +1,5 @@
 -- A refusal names a line of the text or the one behind its last, and a field that its line could have.
-use Rattle.std.proofs.Common.{◌≡◌, ℕ, zero, suc, ◌+◌, ◌<◌, ◌≤◌, Bool, true, false, cond, ◌&&◌, ◌||◌, eqb, ltb, leb, ◌⊎◌, List, [], ◌∷◌, length, Some, None, Ok, Err, Option, sym, refl, ap, ◌∙◌, subst, inl, inr, zero-le, arith}
+use Rattle.std.proofs.Common.{◌≡◌, ℕ, zero, suc, ◌+◌, ◌<◌, ◌≤◌, Bool, true, false, cond, ◌&&◌, ◌||◌, eqb, ltb, leb, List, [], ◌∷◌, length, Some, None, Err, Option, sym, refl, ap, ◌∙◌, subst, zero-le, arith}
 use Rattle.std.specs.List.{slice_get}
 use Rattle.std.specs.Option.{option_or, option_map}
 use Rattle.std.specs.Str.{bytes_eq}
@@ -10,11 +10,10 @@ use Rattle.config.specs.declared.fault.TextFault.{TextFault}
 use Rattle.config.specs.declared.fault.TextRefusal.{TextRefusal}
 use Rattle.config.specs.declared.fault.TextRefusal.TheVariants.{Names, Form, Range}
 use Rattle.config.specs.declared.row.Row.{Row}
-use Rattle.config.specs.declared.table.Config.{Config}
 use Rattle.config.specs.Layout.{Rule, Place, names, settings, gap, parent, map_row, fault, leftmost, values_wrong, table_line, row_wrong, row_of, line_wrong, end_wrong, wrong_at, place, fault_at, settings_rules, parent_rules, row_rules, parents, map_rows, setup_of}
 use Rattle.config.specs.Rows.{is_pmt}
 use Rattle.config.specs.Text.{Bytes, onto, cut, lines, fields}
-use Rattle.config.specs.Told.{text_number, Small, packed_fault, packed, no_memory}
+use Rattle.config.specs.Told.{text_number, Small}
 use Rattle.config.specs.Verdict.{first, clash_of, clash_at, first_clash, unless_clash, unless_fault, verdict, Answers}
 use Rattle.config.proofs.ThirdTable.{length_rows}
 
@@ -171,12 +170,3 @@ pub small_answer : (text : Bytes) (g : ConfigFault) → Answers text (Err g) →
 small_answer text (Text f) e = small text (Text f) e
 small_answer text (Clash n) e = small text (Clash n) e
 small_answer text Memory e = (zero-le, zero-le, zero-le)
-
--- the number that C gets
-pub packed_ok : (text : Bytes) (c : Config) (n : ℕ) → Answers text (Ok c) → n ≡ 0 → (n ≡ packed (verdict text)) ⊎ (n ≡ no_memory)
-packed_ok text c n told zero_is = inl (zero_is ∙ sym (ap packed told))
-
-pub packed_err : (text : Bytes) (g : ConfigFault) (n : ℕ) → Answers text (Err g) → n ≡ packed_fault g → (n ≡ packed (verdict text)) ⊎ (n ≡ no_memory)
-packed_err text (Text f) n told is = inl (is ∙ sym (ap packed told))
-packed_err text (Clash line) n told is = inl (is ∙ sym (ap packed told))
-packed_err text Memory n told is = inr is

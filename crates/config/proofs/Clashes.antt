@@ -1,6 +1,6 @@
 -- A map without a clash keeps its rows apart.
-use Rattle.std.proofs.Common.{◌≡◌, ℕ, zero, suc, ◌+◌, ◌-◌, ◌<◌, ◌≤◌, Bool, true, false, cond, ◌&&◌, ◌||◌, eqb, leb, List, [], ◌∷◌, length, get_or, take, drop, Some, None, sym, refl, ap, ◌∙◌, subst, subst₂, inl, inr, arith}
-use Rattle.std.proofs.lemmas.List.{get_or-take, length-take-le, at_drop_more}
+use Rattle.std.proofs.Common.{◌≡◌, ℕ, zero, suc, ◌+◌, ◌-◌, ◌<◌, ◌≤◌, Bool, true, false, cond, ◌&&◌, ◌||◌, eqb, leb, List, [], ◌∷◌, length, get_or, take, Some, None, sym, refl, ap, ◌∙◌, subst, subst₂, inl, inr, arith}
+use Rattle.std.proofs.lemmas.List.{get_or-take, length-take-le}
 use Rattle.std.proofs.lemmas.Option.{slice_get-get_or}
 use Rattle.std.proofs.lemmas.Bool.{eq-eqb, lt-ltb, leb-false, and_from, or_left, or_right, or_parts, or_from, both_ways, cond-true, cond-false, le-leb, lt-leb}
 use Rattle.config.specs.declared.row.Row.{Row}
@@ -53,17 +53,7 @@ module _ (listed : ℕ) (rows : List Row) (none : first_clash listed rows ≡ No
       (no_clash j r before.within).1
       (any_true (get_or rows j r) (take j rows) i r (omega (arith, long, before.order)) sharing)
 
--- the loops that look for a clash, one row further
-module _ (r : Row) (ss : List Row) (i : ℕ) (d : Row) (within : i < length ss) where
-  opened : any_shares r (drop i ss) ≡ (shares r (get_or ss i d) || any_shares r (drop (i + 1) ss))
-  opened = at_drop_more (any_shares r) ss i d within
-
-  pub any_here : shares r (get_or ss i d) ≡ true → any_shares r (drop i ss) ≡ true
-  any_here is = opened ∙ or_left _ _ is
-
-  pub any_past : shares r (get_or ss i d) ≡ false → any_shares r (drop i ss) ≡ any_shares r (drop (i + 1) ss)
-  any_past is = opened ∙ ap (λ b. b || any_shares r (drop (i + 1) ss)) is
-
+-- the loop that looks for a clash, one row further
 module _ (listed : ℕ) (rows : List Row) (i : ℕ) (d : Row) (within : i < length rows) where
   one_more : length rows - i ≡ suc (length rows - (i + 1))
   one_more = omega arith

@@ -1,4 +1,3 @@
-pub mod AtPlace
 pub mod Bounds
 pub mod Clashes
 pub mod Firsts

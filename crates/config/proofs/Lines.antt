@@ -1,17 +1,14 @@
--- A line of values that has been read up to some field.
-use Rattle.std.proofs.Common.{◌≡◌, ℕ, zero, suc, ◌+◌, ◌-◌, ◌<◌, Bool, true, false, cond, ◌&&◌, ◌||◌, eqb, leb, List, [], ◌∷◌, length, get_or, drop, IsErrAnd, Some, None, Ok, Err, Option, Result, sym, refl, ap, ◌∙◌, subst, ⊎_elim, add-one, arith, length-drop}
+-- What is wrong with a line, by its fields and its place in a table.
+use Rattle.std.proofs.Common.{◌≡◌, ℕ, zero, suc, ◌+◌, ◌-◌, ◌<◌, Bool, true, false, cond, ◌&&◌, ◌||◌, eqb, leb, List, [], ◌∷◌, length, get_or, drop, Some, None, Ok, Err, Option, sym, refl, ap, ◌∙◌, ⊎_elim, add-one, arith, length-drop}
 use Rattle.std.specs.List.{slice_get}
-use Rattle.std.specs.Option.{option_or, option_map, ok_or}
-use Rattle.std.specs.Result.{MatchResult}
-use Rattle.std.proofs.lemmas.List.{drop_more, drop-drop}
-use Rattle.std.proofs.lemmas.Bool.{eq-eqb, ne_eqb, cond-true, cond-false, cases_eq, or_parts, leb-false}
+use Rattle.std.specs.Option.{option_or, option_map}
+use Rattle.std.proofs.lemmas.List.{drop_more}
+use Rattle.std.proofs.lemmas.Bool.{eq-eqb, ne_eqb, cond-true, cond-false, cases_eq, eqb-true, or_parts, leb-false}
 use Rattle.config.specs.declared.fault.TextRefusal.{TextRefusal}
 use Rattle.config.specs.declared.fault.TextRefusal.TheVariants.{Form, Range}
 use Rattle.config.specs.declared.fault.TextFault.{TextFault}
-use Rattle.config.specs.declared.row.Kind.{Kind}
-use Rattle.config.specs.Layout.{Rule, fault, field_at, leftmost, values_wrong, within, kind, row_of, table_line}
+use Rattle.config.specs.Layout.{Rule, fault, field_at, leftmost, values_wrong, table_line}
 use Rattle.config.specs.Reading.{unless, count_wrong, field_wrong}
-use Rattle.config.specs.Rows.{least_service, most_service}
 use Rattle.config.specs.Text.{Bytes, fields}
 
 -- what `unless` says of what it answers
@@ -23,42 +20,6 @@ pub unless_err : {E V : Type 0} (o : Option E) (v : V) (d : E) → Err d ≡ unl
 unless_err None v d e = let z : ◌≡◌ {A = ℕ} 0 1 = cc in absurd (omega arith)
 unless_err (Some r) v d e = cc
 
--- the exit of a `?` answers what is wrong
-pub exits : {E T : Type 0} (res : Result T E) (o : Option E) (v : T) (e : E) → IsErrAnd res (λ y. y ≡ e) → o ≡ Some e → res ≡ unless o v
-exits (Ok x) o v e by is = absurd by
-exits (Err y) o v e by is = ap Err by ∙ sym (ap (λ x. unless x v) is)
-
--- `ok_or` answers its refusal
-pub or_refused : {B E : Type 0} (o : Option B) (d e : E) → Err e ≡ ok_or o d → e ≡ d
-or_refused None d e is = cc
-or_refused (Some b) d e is = let z : ◌≡◌ {A = ℕ} 0 1 = cc in absurd (omega arith)
-
-counted : (a b n : ℕ) → cond (eqb a b) None (Some (fault Form n 0)) ≡ None → a ≡ b
-counted a b n e =
-    ⊎_elim
-    (λ (is : a ≡ b). is)
-    (λ other. let z : ◌≡◌ {A = Option TextFault} (Some (fault Form n 0)) None = sym (cond-false _ _ _ (ne_eqb a b other)) ∙ e in let y : ◌≡◌ {A = ℕ} 0 1 = cc in absurd (omega arith))
-    (cases_eq a b)
-
-pub exits_closed : {T V : Type 0} (n : ℕ) (line : Bytes) (u : V) (rules : List Rule) (res : Result T TextFault) (v : T) (e : TextFault) → Err e ≡ unless (count_wrong n (length rules) line) u → IsErrAnd res (λ y. y ≡ e) → res ≡ unless (values_wrong n rules line) v
-unfolding values_wrong
-exits_closed n line u rules res v e closed by = exits res _ v e by (closed_by (eqb (length (fields line)) (length rules)) (unless_err _ u e closed))
-  where
-    closed_by : (b : Bool) → cond b None (Some (fault Form n 0)) ≡ Some e → cond b (leftmost n 1 rules (fields line)) (Some (fault Form n 0)) ≡ Some e
-    closed_by true is = let z : ◌≡◌ {A = ℕ} 0 1 = cc in absurd (omega arith)
-    closed_by false is = is
-
--- Of line n, which has as many fields as there are rules, the first k keep theirs.
-pub record Read (n : ℕ) (rules : List Rule) (line : Bytes) (k : ℕ) : Type 0 where
-  pub long : length (fields line) ≡ length rules
-  pub sofar : values_wrong n rules line ≡ leftmost n (suc k) (drop k rules) (drop k (fields line))
-
-pub opened : {n : ℕ} {line : Bytes} {V : Type 0} (v x : V) (rules : List Rule) → Ok x ≡ unless (count_wrong n (length rules) line) v → Read n rules line 0
-unfolding values_wrong
-opened {n} {line} v x rules told =
-    let long = counted (length (fields line)) (length rules) n (unless_ok _ v x told).0 in
-    record { long = long; sofar = rw (eq-eqb (length (fields line)) (length rules) long) refl }
-
 pub or_other_none : {X : Type 0} (o p : Option X) → option_or o p ≡ None → (o ≡ None) × (p ≡ None)
 or_other_none None p e = (refl, e)
 or_other_none (Some x) p e = let z : ◌≡◌ {A = ℕ} 0 1 = cc in absurd (omega arith)
@@ -67,56 +28,30 @@ mapped_none : {X Y : Type 0} (g : X → Y) (o : Option X) → option_map g o ≡
 mapped_none g None e = refl
 mapped_none g (Some x) e = let z : ◌≡◌ {A = ℕ} 0 1 = cc in absurd (omega arith)
 
--- what is wrong with the field at index k, which is field k + 1
-abbrev pub wrong_here : ℕ → Bytes → ℕ → Rule → Option TextFault
-wrong_here n line k r = option_map (λ refusal. fault refusal n (suc k)) (r (field_at line k))
+-- the leftmost field that breaks its rule, field by field
+abbrev pub fields_wrong : ℕ → ℕ → List Rule → Bytes → Option TextFault
+fields_wrong n k [] line = None
+fields_wrong n k (r ∷ rs) line = option_or (field_wrong n k line r) (fields_wrong n (suc k) rs line)
 
-module _ {n : ℕ} {rules : List Rule} {line : Bytes} {k : ℕ} (read : Read n rules line k) (r : Rule) (rs : List Rule) (rule : drop k rules ≡ r ∷ rs) where
-  here : values_wrong n rules line ≡ option_or (wrong_here n line k r) (leftmost n (suc (suc k)) rs (drop (k + 1) (fields line)))
-  here =
-      let some_left : k < length (fields line) = omega (arith, read.long, ap length rule, length-drop k rules) in
-      read.sofar ∙ (λ i. leftmost n (suc k) (rule i) (drop_more (fields line) k [] some_left i))
+by_fields : (n k : ℕ) (rules : List Rule) (line : Bytes) → length (drop k (fields line)) ≡ length rules → leftmost n (suc k) rules (drop k (fields line)) ≡ fields_wrong n (suc k) rules line
+by_fields n k [] line long = refl
+by_fields n k (r ∷ rs) line long =
+    let some : k < length (fields line) = omega (arith, length-drop k (fields line)) in
+    let at : k ≡ suc k - 1 = omega arith in
+    let more = by_fields n (suc k) rs line (omega (arith, length-drop k (fields line), length-drop (suc k) (fields line))) in
+    (λ i. leftmost n (suc k) (r ∷ rs) (drop_more (fields line) k [] some i))
+    ∙ ap (λ j. option_or (option_map (λ refusal. fault refusal n (suc k)) (r (field_at line j))) (leftmost n (suc (suc k)) rs (drop (k + 1) (fields line)))) at
+    ∙ ap (λ j. option_or (field_wrong n (suc k) line r) (leftmost n (suc (suc k)) rs (drop j (fields line)))) (add-one k)
+    ∙ ap (λ o. option_or (field_wrong n (suc k) line r) o) more
 
-  -- one more field is right
-  pub more : {V : Type 0} (v x : V) → Ok x ≡ unless (wrong_here n line k r) v → Read n rules line (k + 1)
-  more v x told =
-      let one_more : suc k ≡ k + 1 = sym (add-one k) in
-      let behind : rs ≡ drop (k + 1) rules = sym (sym (drop-drop 1 k rules) ∙ ap (drop 1) rule) in
-      record {
-        long = read.long;
-        sofar =
-            here
-            ∙ ap (λ o. option_or o (leftmost n (suc (suc k)) rs (drop (k + 1) (fields line)))) (unless_ok (wrong_here n line k r) v x told).0
-            ∙ (λ i. leftmost n (suc (one_more i)) (behind i) (drop (k + 1) (fields line)));
-      }
-
-  -- the exit at a field that is wrong
-  pub exits_wrong : {V T : Type 0} (u : V) (res : Result T TextFault) (v : T) (e : TextFault) → Err e ≡ unless (wrong_here n line k r) u → IsErrAnd res (λ y. y ≡ e) → res ≡ unless (values_wrong n rules line) v
-  exits_wrong u res v e wrong by =
-      exits res _ v e by
-      (here ∙ ap (λ o. option_or o (leftmost n (suc (suc k)) rs (drop (k + 1) (fields line)))) (unless_err (wrong_here n line k r) u e wrong))
-
--- what a field answers, from what is read of its bytes
-pub field_answer : {V : Type 0} (n k : ℕ) (line : Bytes) (rule : Rule) (of : Bytes → V) (field : Bytes) (read : Result V TextRefusal) (res : Result V TextFault) (post : TextRefusal → TextFault → Type 0) → field ≡ field_at line (k - 1) → read ≡ unless (rule field) (of field) → MatchResult read (λ x. res ≡ Ok x) (λ e. IsErrAnd res (post e)) → ((e : TextRefusal) (d : TextFault) → post e d → d ≡ fault e n k) → res ≡ unless (field_wrong n k line rule) (of (field_at line (k - 1)))
-field_answer {V} n k line rule of field read res post is told cases handed =
-    subst (λ at. res ≡ unless (option_map (λ refusal. fault refusal n k) (rule at)) (of at)) is (by (rule field) read res told cases)
+-- what is wrong with a line of values: its count of fields, or its leftmost wrong field
+pub values_by_fields : (n : ℕ) (rules : List Rule) (line : Bytes) → values_wrong n rules line ≡ option_or (count_wrong n (length rules) line) (fields_wrong n 1 rules line)
+unfolding values_wrong
+values_by_fields n rules line = by (eqb (length (fields line)) (length rules)) refl
   where
-    by : (o : Option TextRefusal) (r : Result V TextRefusal) (s : Result V TextFault) → r ≡ unless o (of field) → MatchResult r (λ x. s ≡ Ok x) (λ e. IsErrAnd s (post e)) → s ≡ unless (option_map (λ refusal. fault refusal n k) o) (of field)
-    by None (Ok x) s e is = is ∙ ap Ok (let same : x ≡ of field = cc in same)
-    by None (Err d) s e is = let z : ◌≡◌ {A = ℕ} 0 1 = cc in absurd (omega arith)
-    by (Some y) (Ok x) s e is = let z : ◌≡◌ {A = ℕ} 0 1 = cc in absurd (omega arith)
-    by (Some y) (Err x) (Ok z) e is = absurd is
-    by (Some y) (Err x) (Err d) e is = let same : x ≡ y = cc in ap Err (handed x d is) ∙ ap (λ r. Err (fault r n k)) same
-
--- all fields are read
-pub all_right : {n : ℕ} {rules : List Rule} {line : Bytes} {k : ℕ} → Read n rules line k → drop k rules ≡ [] → values_wrong n rules line ≡ None
-all_right {n} {rules} {line} {k} read none = read.sofar ∙ ap (λ rs. leftmost n (suc k) rs (drop k (fields line))) none
-
--- the rule of a row's last field, by the kind that was read
-pub service_rule : (line : Bytes) (k : Kind) (range : ℕ × ℕ) → k ≡ kind (field_at line 3) → range ≡ (least_service k, most_service k) → within range.0 range.1 ≡ within (least_service (row_of line).kind) (most_service (row_of line).kind)
-unfolding row_of
-service_rule line k range is told =
-    ap (λ (p : ℕ × ℕ). within p.0 p.1) told ∙ ap (λ w. within (least_service w) (most_service w)) is
+    by : (b : Bool) → eqb (length (fields line)) (length rules) ≡ b → cond b (leftmost n 1 rules (fields line)) (Some (fault Form n 0)) ≡ option_or (cond b None (Some (fault Form n 0))) (fields_wrong n 1 rules line)
+    by true is = by_fields n 0 rules line (eqb-true _ _ is)
+    by false is = refl
 
 -- whether a line may stand in its table comes before its fields
 module _ (n most i : ℕ) (line : Bytes) (in-fields : Option TextFault) where
@@ -133,14 +68,6 @@ module _ (n most i : ℕ) (line : Bytes) (in-fields : Option TextFault) where
       by : (b : Bool) → cond b (Some (fault Range n 0)) None ≡ Some f → cond b (Some (fault Range n 0)) in-fields ≡ Some f
       by true e = e
       by false e = let z : ◌≡◌ {A = ℕ} 0 1 = cc in absurd (omega arith)
-
-pub err_is : {T : Type 0} (res : Result T TextFault) (e : TextFault) → IsErrAnd res (λ y. y ≡ e) → res ≡ Err e
-err_is (Ok x) e by = absurd by
-err_is (Err y) e by = ap Err by
-
--- nothing is wrong, and this is the value
-pub ok_is : {E V : Type 0} (o : Option E) (v x : V) → o ≡ None → x ≡ v → Ok x ≡ unless o v
-ok_is o v x none same = ap Ok same ∙ sym (ap (λ w. unless w v) none)
 
 -- each field of a right line keeps its rule
 leftmost_kept : (n j : ℕ) (rules : List Rule) (fs : List Bytes) → length fs ≡ length rules → leftmost n j rules fs ≡ None → (k : ℕ) (r : Rule) → slice_get rules k ≡ Some r → r (get_or fs k []) ≡ None

@@ -1,5 +1,5 @@
 -- What a field's bytes say of its number.
-use Rattle.std.proofs.Common.{◌≡◌, ℕ, ◌+◌, ◌-◌, ◌*◌, ◌^◌, ◌<◌, ◌≤◌, Bool, true, false, cond, not, ◌&&◌, ◌||◌, eqb, ltb, leb, ◌⊎◌, length, get_or, drop, Some, None, Option, refl, ◌∙◌, inl, inr, ⊎_elim, pow-suc, add-one, arith}
+use Rattle.std.proofs.Common.{◌≡◌, ℕ, ◌^◌, ◌<◌, ◌≤◌, Bool, true, false, cond, not, ◌&&◌, ◌||◌, eqb, ltb, leb, ◌⊎◌, length, get_or, drop, Some, None, Option, refl, ◌∙◌, inl, inr, ⊎_elim, arith}
 use Rattle.std.proofs.lemmas.List.{at_drop_more, at_drop_all}
 use Rattle.std.proofs.lemmas.Bool.{eq-eqb, ne_eqb, lt-ltb, le-ltb, le-leb, lt-leb, and_left, and_right, and_from, or_left, or_right, cond-true, not_from_false, cases_eq, cases_lt}
 use Rattle.config.specs.declared.fault.TextRefusal.{TextRefusal}
@@ -53,15 +53,6 @@ unfolding written
 sofar_none f = record { digits = refl; value = refl; small = omega arith }
 
 module _ (f : Bytes) (i n : ℕ) (within : i < length f) (sofar : Sofar f i n) where
-  pub sofar_more : 48 ≤ get_or f i 0 → get_or f i 0 ≤ 57 → Sofar f (i + 1) (n * 10 + (get_or f i 0 - 48))
-  sofar_more low high =
-      let digit : is_digit (get_or f i 0) ≡ true = and_from _ _ (le-leb 48 _ low) (le-leb _ 57 high) in
-      record {
-        digits = sofar.digits ∙ at_drop_more all_digits f i 0 within ∙ rw digit;
-        value = sofar.value ∙ at_drop_more (written_after n) f i 0 within;
-        small = rw (add-one, pow-suc) (omega (arith, sofar.small));
-      }
-
   pub sofar_stops : (get_or f i 0 < 48) ⊎ (57 < get_or f i 0) → all_digits f ≡ false
   sofar_stops out =
       let bad : is_digit (get_or f i 0) ≡ false =
@@ -77,15 +68,15 @@ pub no_number : (low high : ℕ) (f : Bytes) → number f ≡ None → within lo
 unfolding within
 no_number low high f e = rw e
 
-module _ (low high n : ℕ) (f : Bytes) (is : number f ≡ Some n) where
-  pub is_written : written f ≡ n
-  unfolding number
-  is_written = written_by (is_number f) is
-    where
-      written_by : (b : Bool) → cond b (Some (written f)) None ≡ Some n → written f ≡ n
-      written_by true e = cc
-      written_by false e = absurd (let z : ◌≡◌ {A = ℕ} 0 1 = cc in omega arith)
+pub is_written : (n : ℕ) (f : Bytes) → number f ≡ Some n → written f ≡ n
+unfolding number
+is_written n f is = written_by (is_number f) is
+  where
+    written_by : (b : Bool) → cond b (Some (written f)) None ≡ Some n → written f ≡ n
+    written_by true e = cc
+    written_by false e = absurd (let z : ◌≡◌ {A = ℕ} 0 1 = cc in omega arith)
 
+module _ (low high n : ℕ) (f : Bytes) (is : number f ≡ Some n) where
   pub in_range : low ≤ n → n ≤ high → within low high f ≡ None
   unfolding within
   in_range least most = rw (is, le-leb low n least, le-leb n high most) refl
@@ -108,7 +99,7 @@ range_known low high f right = by (number f) refl
     by : (o : Option ℕ) → number f ≡ o → Between low high (written f)
     by None is = absurd (never (no_number low high f is))
     by (Some n) is =
-        let value = is_written low high n f is in (
+        let value = is_written n f is in (
           ⊎_elim (λ less. absurd (never (out_of_range low high n f is (inl less)))) (λ ok. omega arith) (cases_lt n low),
           ⊎_elim (λ more. absurd (never (out_of_range low high n f is (inr more)))) (λ ok. omega arith) (cases_lt high n),
         )

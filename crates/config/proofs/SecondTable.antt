@@ -216,10 +216,6 @@ pub record ReadParents (ls : List Bytes) (r : Reader) (rates : List ℕ) : Type 
   pub are : rates ≡ map rate_of (take (length rates) (drop 4 ls))
   pub range : (p : ℕ) → p < length rates → Between 100_000 100_000_000 (get_or rates p 0)
 
-pub no_parents : (ls : List Bytes) (r : Reader) → At ls r 4 → ReadParents ls r []
-no_parents ls r at =
-    record { at = at; few = omega arith; upto = omega arith; are = refl; range = λ p lt. absurd (omega arith) }
-
 module _ (ls : List Bytes) (r s : Reader) (rates : List ℕ) (read : ReadParents ls r rates) (l : Line) (next : Next r l s) (i : ℕ) (count : i ≡ length rates) where
   -- the answer of the next line, as line i of the table
   abbrev answer : ℕ → Result (Option ℕ) TextFault

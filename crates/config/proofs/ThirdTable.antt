@@ -1,6 +1,6 @@
 -- The third table: what its lines say, up to the end of the text.
 use Rattle.std.proofs.Common.{◌≡◌, ℕ, zero, suc, ◌+◌, ◌-◌, ◌<◌, ◌≤◌, Bool, true, false, cond, ◌&&◌, leb, List, [], ◌∷◌, ◌++◌, map, length, take, drop, Some, None, Ok, Err, codes, Option, Result, sym, refl, ap, ◌∙◌, subst, subst₂, ⊎_elim, arith, length-drop}
-use Rattle.std.specs.List.{slice_get, ContainsAt as Has}
+use Rattle.std.specs.List.{slice_get}
 use Rattle.std.specs.Option.{option_map}
 use Rattle.std.proofs.ByRecursion.{has_push_cases}
 use Rattle.std.proofs.lemmas.List.{length_push, length-map, take_all}
@@ -145,20 +145,6 @@ pub record ReadRows (ls : List Bytes) (r : Reader) (rows : List Row) (m : ℕ) :
 
 pub same_rows : {ls : List Bytes} {r : Reader} {rows others : List Row} {m n : ℕ} → others ≡ rows → n ≡ m → ReadRows ls r rows m → ReadRows ls r others n
 same_rows {ls} {r} p q read = subst₂ (ReadRows ls r) (sym p) (sym q) read
-
-no_row : (row : Row) → Has [] row → ⊥
-no_row row has = omega (arith, has.1)
-
-pub no_rows : (ls : List Bytes) (r : Reader) → At ls r (6 + parents ls) → ReadRows ls r [] 0
-no_rows ls r at =
-    record {
-      at = subst (At ls r) (omega arith) at;
-      few = omega arith;
-      are = refl;
-      count = refl;
-      pmt = omega arith;
-      range = λ row has. absurd (no_row row has);
-    }
 
 module _ (ls : List Bytes) (r s : Reader) (rows : List Row) (m : ℕ) (read : ReadRows ls r rows m) (l : Line) (next : Next r l s) (i : ℕ) (count : i ≡ length rows) where
   -- the answer of the next line, as map row i

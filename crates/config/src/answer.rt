@@ -1,22 +1,11 @@
 // The answer to a configuration text, as one number for C and as a line to print.
 ghost use Rattle.std.specs.Prelude.{◌≡◌, ◌⊎◌, IfOk, string_bytes};
-ghost use Rattle.config.specs.Told.{text_number, Small, packed_fault, packed, no_memory, ok_line, refused_line, shown};
+ghost use Rattle.config.specs.Told.{Small, packed_fault, packed, no_memory, ok_line, refused_line, shown};
 ghost use Rattle.config.specs.Verdict.{verdict};
 
 use crate::check::check;
-use crate::fault::{ConfigFault, TextRefusal};
+use crate::fault::ConfigFault;
 use std::alloc::{AllocError, Global};
-
-// The number of a refusal of the text reader.
-fn text_number(refusal: TextRefusal) -> u32
-    ensures { result ≡ text_number refusal }
-{
-    match refusal {
-        TextRefusal::Names => 1,
-        TextRefusal::Form => 2,
-        TextRefusal::Range => 3,
-    }
-}
 
 fn accepted(heap: Global, parents: usize, rows: usize) -> Result<String, AllocError>
     ensures { IfOk result (λ s. string_bytes s ≡ ok_line parents rows) }
@@ -38,7 +27,7 @@ pub fn answer_line(heap: Global, text: &[u8]) -> Result<String, AllocError>
         Ok(config) => accepted(heap, config.rates().len(), config.rows().len()),
         Err(ConfigFault::Text(fault)) => refused(
             heap,
-            text_number(fault.refusal),
+            fault.refusal.number(),
             fault.line,
             fault.field,
         ),
@@ -53,7 +42,7 @@ fn pack(fault: ConfigFault) -> u32
     ensures { result ≡ packed_fault fault }
 {
     match fault {
-        ConfigFault::Text(fault) => text_number(fault.refusal) * 10_000_000
+        ConfigFault::Text(fault) => fault.refusal.number() * 10_000_000
             + fault.line * 100
             + fault.field,
         ConfigFault::Clash { line } => 40_000_000 + line * 100,

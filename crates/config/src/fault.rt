@@ -1,5 +1,6 @@
 // What is wrong with a configuration text.
 ghost use Rattle.std.specs.Prelude.{◌≡◌};
+ghost use Rattle.config.specs.Told.{text_number};
 ghost use Rattle.config.specs.declared.fault.ConfigFault.TheVariants.{Text, Memory};
 
 use std::alloc::{AllocError, AllocFailed};
@@ -8,11 +9,31 @@ use std::alloc::{AllocError, AllocFailed};
 #[derive(Clone, Copy, Debug, PartialEq, Eq)]
 pub enum TextRefusal {
     // a line of names is missing or different
-    Names,
+    Names = 1,
     // a wrong number of fields, a field that is no number, or a kind that is neither word
-    Form,
+    Form = 2,
     // a number outside its range, a parent out of order, a line missing or too many
-    Range,
+    Range = 3,
+}
+
+impl TextRefusal {
+    // This refusal of a field of line `line`, or of the whole line where `field` is 0.
+    pub(crate) fn at(self, line: u32, field: u32) -> TextFault
+        ensures { result ≡ record { refusal = self; line = line; field = field } }
+    {
+        TextFault {
+            refusal: self,
+            line,
+            field,
+        }
+    }
+
+    // Its number.
+    pub(crate) fn number(self) -> u32
+        ensures { result ≡ text_number self }
+    {
+        self as u32
+    }
 }
 
 // A fault of the text: its line and field count from 1, and the field is 0 where it is the line that is wrong.

@@ -20,7 +20,7 @@ pub(crate) fn number(field: &[u8]) -> Option<u64>
     }
     let mut n: u64 = 0;
     for b in field {
-        if *b < b'0' || *b > b'9' {
+        if !b.is_ascii_digit() {
             return None;
         }
         n = n * 10 + u64::from(*b - b'0');
@@ -29,6 +29,7 @@ pub(crate) fn number(field: &[u8]) -> Option<u64>
 }
 
 // A number from `low` to `high`.
+#[tactic(auto, using(crate::proofs::Numbers::is_written), unfolding(crate::specs::Layout::within))]
 pub(crate) fn number_within(field: &[u8], low: u64, high: u64) -> Result<u64, TextRefusal>
     ensures value { result ≡ unless (within low high field.now) (written field.now) }
     ensures range { IfOk result (Between low high) }

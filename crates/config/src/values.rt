@@ -1,4 +1,6 @@
 // Lines of values.
+#![tactic(auto, using(crate::proofs::Lines::unless_ok, crate::proofs::Lines::unless_err, crate::proofs::Lines::values_by_fields), unfolding(crate::specs::Layout::settings_of, crate::specs::Layout::rate_of, crate::specs::Layout::row_of))]
+
 ghost use Rattle.std.specs.Prelude.{◌≡◌};
 ghost use Rattle.config.specs.Layout.{values_wrong, settings_rules, settings_of, parent_rules, rate_of, row_rules, row_of};
 ghost use Rattle.config.specs.Reading.{unless};

@@ -27,7 +27,7 @@ fn tell_whole(rt: &HostRuntime) -> io::Result<()> {
 // The example up to the end of each line, with its line feed and without.
 fn tell_ends(rt: &HostRuntime) -> io::Result<()> {
     let heap = rt.alloc();
-    for count in 0..LINES + 1 {
+    for count in 0..=LINES {
         let mut text = texts::first_lines(heap, count)?;
         let name = format!(in heap; "the first {count} lines")?;
         tell(rt, name.as_str(), text.as_bytes())?;
@@ -41,7 +41,7 @@ fn tell_ends(rt: &HostRuntime) -> io::Result<()> {
 // The example without each of its lines.
 fn tell_missing(rt: &HostRuntime) -> io::Result<()> {
     let heap = rt.alloc();
-    for number in 1..LINES + 1 {
+    for number in 1..=LINES {
         let text = texts::without_line(heap, number)?;
         let name = format!(in heap; "without line {number}")?;
         tell(rt, name.as_str(), text.as_bytes())?;
@@ -53,7 +53,7 @@ fn tell_missing(rt: &HostRuntime) -> io::Result<()> {
 fn tell_sweep(rt: &HostRuntime, sweep: &Sweep) -> io::Result<()> {
     let heap = rt.alloc();
     let Sweep(name, before, after) = sweep;
-    for number in 1..LINES + 1 {
+    for number in 1..=LINES {
         let text = texts::around_line(heap, number, before, after)?;
         let name = format!(in heap; "{name} line {number}")?;
         tell(rt, name.as_str(), text.as_bytes())?;

@@ -78,11 +78,7 @@ fn holds_what_is_written(rt: HostRuntime) -> Result<(), Fail> {
 fn names_a_clash(rt: HostRuntime) -> Result<(), Fail> {
     let heap = rt.alloc();
     let text = texts::with_line(heap, 10, "0 256 48 pmt 3")?;
-    match check(heap, text.as_bytes()) {
-        Ok(_) => Err(Fail::new("a clash was let through")),
-        Err(fault) => {
-            assert_eq!(rt; fault, ConfigFault::Clash { line: 10 });
-            Ok(())
-        },
-    }
+    let fault = check(heap, text.as_bytes()).err();
+    assert_eq!(rt; fault, Some(ConfigFault::Clash { line: 10 }));
+    Ok(())
 }

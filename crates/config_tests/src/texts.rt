@@ -32,24 +32,31 @@ pub(crate) fn first_lines(heap: Global, count: usize) -> Result<String, AllocErr
     Ok(text)
 }
 
-// The example without line `number`.
-pub(crate) fn without_line(heap: Global, number: usize) -> Result<String, AllocError> {
+// The example with what `change` pushes in place of line `number`.
+fn changed<F>(heap: Global, number: usize, change: F) -> Result<String, AllocError>
+where
+    F: Fn(&mut String, &str) -> Result<(), AllocError>,
+    requires { F.IsAlwaysCallable change }
+{
     let mut text = String::new(heap);
     for (i, line) in EXAMPLE.iter().enumerate() {
-        if i + 1 != number {
+        if i + 1 == number {
+            change(&mut text, line)?;
+        } else {
             push_line(&mut text, line)?;
         }
     }
     Ok(text)
 }
 
+// The example without line `number`.
+pub(crate) fn without_line(heap: Global, number: usize) -> Result<String, AllocError> {
+    changed(heap, number, |_text, _line| Ok(()))
+}
+
 // The example with line `number` replaced.
 pub(crate) fn with_line(heap: Global, number: usize, other: &str) -> Result<String, AllocError> {
-    let mut text = String::new(heap);
-    for (i, line) in EXAMPLE.iter().enumerate() {
-        push_line(&mut text, if i + 1 == number { other } else { line })?;
-    }
-    Ok(text)
+    changed(heap, number, |text, _line| push_line(text, other))
 }
 
 // The example with something before and behind line `number`.
@@ -59,17 +66,11 @@ pub(crate) fn around_line(
     before: &str,
     behind: &str,
 ) -> Result<String, AllocError> {
-    let mut text = String::new(heap);
-    for (i, line) in EXAMPLE.iter().enumerate() {
-        if i + 1 == number {
-            text.push_str(before)?;
-            text.push_str(line)?;
-            push_line(&mut text, behind)?;
-        } else {
-            push_line(&mut text, line)?;
-        }
-    }
-    Ok(text)
+    changed(heap, number, |text, line| {
+        text.push_str(before)?;
+        text.push_str(line)?;
+        push_line(text, behind)
+    })
 }
 
 fn push_parents(heap: Global, text: &mut String, parents: u8) -> Result<(), AllocError> {

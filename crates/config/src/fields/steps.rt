@@ -29,11 +29,7 @@ impl<'a> Fields<'a> {
         ensures { result ≡ unless (count_wrong self.entry.line count self.entry.bytes.now) tt }
     {
         if self.count() != count {
-            return Err(TextFault {
-                refusal: TextRefusal::Form,
-                line: self.line,
-                field: 0,
-            });
+            return Err(TextRefusal::Form.at(self.line, 0));
         }
         Ok(())
     }
@@ -51,21 +47,13 @@ impl<'a> Fields<'a> {
         ensures value { result ≡ unless (field_wrong self.entry.line field self.entry.bytes.now (within low high)) (written (field_at self.entry.bytes.now (field - 1))) }
         ensures range { IfOk result (Between low high) }
     {
-        number_within(self.field(field), low, high).map_err(|refusal| TextFault {
-            refusal,
-            line: self.line,
-            field,
-        })
+        number_within(self.field(field), low, high).map_err(|refusal| refusal.at(self.line, field))
     }
 
     // Field `field` as a kind.
     pub(crate) fn kind(self, field: u32) -> Result<Kind, TextFault>
         ensures { result ≡ unless (field_wrong self.entry.line field self.entry.bytes.now kind_word) (kind_of (field_at self.entry.bytes.now (field - 1))) }
     {
-        Kind::try_from(self.field(field)).map_err(|refusal| TextFault {
-            refusal,
-            line: self.line,
-            field,
-        })
+        Kind::try_from(self.field(field)).map_err(|refusal| refusal.at(self.line, field))
     }
 }

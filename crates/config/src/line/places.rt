@@ -1,3 +1,6 @@
+// What a line says at its place.
+#![tactic(auto, using(crate::proofs::Lines::may_stand, crate::proofs::Lines::may_not_stand), unfolding(crate::specs::Layout::line_wrong, crate::specs::Layout::end_wrong))]
+
 ghost use Rattle.std.specs.Prelude.{◌≡◌, None, Some, IfOk, IfErr};
 ghost use Rattle.std.specs.Option.{option_map};
 ghost use Rattle.config.specs.Layout.{names as names_place, settings as settings_place, gap as gap_place, map_row, table_line, settings_of, row_of};
@@ -21,11 +24,7 @@ impl<'a> Line<'a> {
     fn fault(self, refusal: TextRefusal) -> TextFault
         ensures { result ≡ record { refusal = refusal; line = self.entry.number; field = 0 } }
     {
-        TextFault {
-            refusal,
-            line: self.number,
-            field: 0,
-        }
+        refusal.at(self.number, 0)
     }
 
     // The names of a table's columns.

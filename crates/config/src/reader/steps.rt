@@ -14,11 +14,7 @@ impl<'a> Reader<'a> {
         ensures err { IfErr result (λ e. too_long text.now ≡ Some e) }
     {
         if text.len() > 16_384 {
-            return Err(TextFault {
-                refusal: TextRefusal::Names,
-                line: 0,
-                field: 0,
-            });
+            return Err(TextRefusal::Names.at(0, 0));
         }
         Ok(Reader {
             text,

@@ -66,19 +66,18 @@ returns-in-Some c =
     verdict_clash _ c.in_ok-reader.ensures.ok.0 _ (cut_so settled) _ _ _ (settings_are settled) read.1 (rows_are looked) _ (clash_is looked ∙ c.in-Some.is)
     ∙ ap (λ n. Err (Clash (7 + n + c.in-Some.row))) (sym (c.len-in-Some.ensures ∙ c.in_ok-rates.rates.ok.0 ∙ many))
 
-pub of-requires : goal.of-requires
-of-requires c =
+pub of-requires-clause-settings_in_range : goal.of-requires-clause-settings_in_range
+of-requires-clause-settings_in_range c =
     let head = c.in_ok-settings.ensures in
-    let rows = c.in_ok-rows.ensures.1 in
+    subst (λ (s : Settings). SettingsInRange s.ticks s.backlog s.copies s.tsid) (sym head.1) (settings_range _ head.0.inside head.0.right)
+
+pub of-requires-clause-all_listed : goal.of-requires-clause-all_listed
+of-requires-clause-all_listed c =
     let items = vec_items c.in_ok-rows.rows in
-    let none = clash_is (goal.at.of-requires c).After-find_clash ∙ c.in_default.is in record {
-      settings_in_range = subst (λ (s : Settings). SettingsInRange s.ticks s.backlog s.copies s.tsid) (sym head.1) (settings_range _ head.0.inside head.0.right);
-      rates_in_range = c.in_ok-rates.ensures.1.1;
-      rows_counted = rows.2;
-      rows_in_range = rows.3;
-      all_listed = subst (λ n. AllListed n items) (sym c.in_ok-rates.rates.ok.0) (all_listed _ items none);
-      none_shares = none_shares _ items none;
-    }
+    subst (λ n. AllListed n items) (sym c.in_ok-rates.rates.ok.0) (all_listed _ items (clash_is (goal.at.of-requires-clause-all_listed c).After-find_clash ∙ c.in_default.is))
+
+pub of-requires-clause-none_shares : goal.of-requires-clause-none_shares
+of-requires-clause-none_shares c = none_shares _ (vec_items c.in_ok-rows.rows) (clash_is (goal.at.of-requires-clause-none_shares c).After-find_clash ∙ c.in_default.is)
 
 pub returns : goal.returns
 returns c =
