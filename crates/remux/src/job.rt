@@ -27,7 +27,7 @@ pub(crate) struct Job {
 
 impl Job {
     // All frames that the input allows, and then the line of counters. What was placed before a fault is written all the same.
-    pub(crate) fn run<C: Emits + Drop>(
+    pub(crate) fn run<C: Emits>(
         &mut self,
         rt: &HostRuntime,
         output: &mut Output<C>,
@@ -41,7 +41,7 @@ impl Job {
         Ok(())
     }
 
-    fn run_frames<C: Emits + Drop>(
+    fn run_frames<C: Emits>(
         &mut self,
         rt: &HostRuntime,
         output: &mut Output<C>,
@@ -62,7 +62,7 @@ impl Job {
     }
 
     // Places one frame; `None` where the input or the records are at their end.
-    fn run_frame<C: Emits + Drop>(
+    fn run_frame<C: Emits>(
         &mut self,
         rt: &HostRuntime,
         output: &mut Output<C>,

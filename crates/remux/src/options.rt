@@ -77,6 +77,8 @@ impl fmt::Display for Named {
     }
 }
 
+// Site logs name the same two in the crate `sitelog`; with its carrier of either kind a run would have to ask again how
+// many bytes a packet takes, where here the type of its carrier says it.
 #[derive(Clone, Copy, PartialEq, Eq, Debug)]
 pub(crate) enum CarrierKind {
     Strip,
@@ -155,7 +157,7 @@ pub(crate) enum Call {
 // The call that the words make, the program's name left out.
 pub(crate) fn read_call(heap: Global, mut words: Args) -> Result<Call, UsageFault> {
     let mut draft = Draft::new(heap);
-    // Each turn takes one word or more.
+    // Each turn takes one word or more: this bound spares a measure, and a clause on each function that takes words.
     for _ in 0..words.len() {
         let Some(word) = words.next() else {
             break;

@@ -11,7 +11,7 @@ use std::alloc::{AllocError, Global};
 const STUFFING_PID: u16 = 8191;
 
 // Carriers whose bytes go to a file.
-pub(crate) trait Emits: Carrier {
+pub(crate) trait Emits: Carrier + Drop {
     // How many bytes stand behind each packet among those written.
     const BEHIND: u8;
 
@@ -47,12 +47,12 @@ impl Emits for Folded {
 }
 
 #[derive(Drop)]
-pub(crate) struct Output<C: Emits + Drop> {
+pub(crate) struct Output<C: Emits> {
     pub(crate) carrier: C,
     sink: Sink,
 }
 
-impl<C: Emits + Drop> Output<C> {
+impl<C: Emits> Output<C> {
     // With room for frames of so many slots.
     pub(crate) fn new(heap: Global, slots: u32, sink: Sink) -> Result<Output<C>, AllocError> {
         let memory = vec![in heap; 0u8; slots as usize * Output::<C>::piece()]?;

@@ -19,9 +19,9 @@ use rules::entry::Entry;
 use std::alloc::{AllocError, Global};
 use std::fs;
 
-// A frame has at most so many slots, and by default these. The adapter has its own limit, and keeps it to itself.
+// A frame has at most so many slots; the adapter's own limit is not public.
 const MOST_SLOTS: u32 = 4096;
-
+// How many it has by default.
 const USUAL_SLOTS: u64 = 1000;
 // A parent's line has room for so many entries; more are never used.
 const LINE: usize = 4096;

@@ -43,10 +43,7 @@ impl Rack {
     }
 
     // Places the oldest record's frame.
-    pub(crate) fn frame<C: Emits + Drop>(
-        &mut self,
-        output: &mut Output<C>,
-    ) -> Result<Framed, Refusal> {
+    pub(crate) fn frame<C: Emits>(&mut self, output: &mut Output<C>) -> Result<Framed, Refusal> {
         let framed = self.adapter.frame(&mut output.carrier)?;
         self.counters
             .count_frame(framed, output.held() as u64, output.stuffing() as u64);

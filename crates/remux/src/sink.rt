@@ -18,6 +18,7 @@ impl Sink {
     pub(crate) fn create(rt: &HostRuntime, name: String) -> Result<Sink, Fault> {
         let file = fs::create(rt, name.as_str());
         let file = file.map_err(|error| FileFault::from(error).of(&name))?;
+        // Only for want of memory is there no buffer.
         let file = BufWriter::with_capacity(rt.alloc(), BLOCK, file).map_err(|_| AllocError)?;
         Ok(Sink { name, file })
     }
