@@ -4,7 +4,7 @@ ghost use Rattle.feed.specs.Frames.{frame_of};
 
 use rules::entry::Frame;
 
-// No frame starts later.
+// No frame starts later; the adapter's own limit is not public.
 const LATEST: u64 = 1 << 60;
 
 #[derive(Clone, Copy)]

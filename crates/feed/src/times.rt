@@ -5,7 +5,7 @@ ghost use Rattle.feed.specs.Times.{capped, handed_with, unwrapped};
 
 // In a plain file one packet in so many is handed with its time.
 const TIMED_EVERY: u64 = 1000;
-// 1,504 bits for each packet, 27,000,000 ticks to a second.
+// 1,504 bits for each packet, 27,000,000 ticks to a second; the adapter has the like for itself, in 64 bits.
 const TICK_BITS: u128 = 40_608_000_000;
 // Stamps have 30 bits.
 const STAMPS: u64 = 1 << 30;
