@@ -1,9 +1,22 @@
 -- A walk over decimal digits.
-use Rattle.std.proofs.Common.{◌≡◌, ℕ, ◌+◌, ◌-◌, ◌*◌, ◌<◌, ◌≤◌, true, false, ◌&&◌, leb, ◌⊎◌, [], ◌∷◌, length, get_or, drop, Some, None, sym, refl, ap, ◌∙◌, ⊎_elim, arith}
+use Rattle.std.proofs.Common.{◌≡◌, ℕ, Bool, ◌+◌, ◌-◌, ◌*◌, ◌<◌, ◌≤◌, true, false, ◌&&◌, leb, ◌⊎◌, [], ◌∷◌, length, get_or, drop, Some, None, sym, refl, ap, ◌∙◌, ⊎_elim, arith}
 use Rattle.std.proofs.lemmas.List.{at_drop_more}
 use Rattle.std.proofs.lemmas.Bool.{le-leb, lt-leb, leb-true, and_from, and_parts, and_left, and_right, le-ltb, lt-ltb, cond-true, cond-false}
+use Rattle.std.specs.Char.{is_ascii_digit}
+use Rattle.std.specs.List.{list_all}
 use Rattle.config.specs.Text.{Bytes, is_digit, all_digits, written, written_after}
-use Rattle.sitelog.specs.Lines.{below}
+use Rattle.sitelog.specs.Lines.{below, digits}
+
+pub all_are : (w : Bytes) → list_all is_ascii_digit w ≡ all_digits w
+all_are [] = refl
+all_are (b ∷ w) = ap (λ r. is_digit b && r) (all_are w)
+
+and_true : (b : Bool) → b ≡ (b && true)
+and_true true = refl
+and_true false = refl
+
+pub long_enough : (w : Bytes) → 0 < length w → all_digits w ≡ digits w
+long_enough w lt = and_true (all_digits w) ∙ ap (λ b. all_digits w && b) (sym (lt-ltb 0 (length w) lt))
 
 module _ (w : Bytes) (i : ℕ) (lt : i < length w) where
   pub digits_step : all_digits (drop i w) ≡ (is_digit (get_or w i 0) && all_digits (drop (i + 1) w))

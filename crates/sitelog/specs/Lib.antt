@@ -2,3 +2,4 @@ pub mod Mounting
 pub mod Sites
 pub mod Splits
 pub mod Lines
+pub mod Stops

@@ -1,5 +1,5 @@
 -- What a site's calls do: one carrier takes part, and the others stay as they are.
-use Rattle.std.specs.Prelude.{◌≡◌, ℕ, ◌/◌, min, List, [], ◌∷◌, IfOk, IfErr, Some, None, vec_items, Option, Result, slice_index_or, slice_set}
+use Rattle.std.specs.Prelude.{◌≡◌, ℕ, ◌/◌, min, List, [], ◌∷◌, IfOk, IfErr, Some, None, Option, Result, slice_index_or, slice_set}
 use Rattle.adapter.specs.Laws.{ClearAfter, EqualAfter}
 use Rattle.adapter.specs.View.{view, setup_of, entries_of, KeptSetup}
 use Rattle.carrier.specs.Meaning.{Carried, vacant, refusal, refusal_in}
@@ -19,7 +19,7 @@ index_of place = place.index
 
 -- what stands at its places, in order
 abbrev pub carriers_of : Site → List (Option Mounted)
-carriers_of site = vec_items site.carriers
+carriers_of site = site.carriers
 
 -- the carrier at a place, if there is one
 abbrev pub carrier_at : Site → ℕ → Option Mounted

@@ -23,13 +23,7 @@ fn digit(c: u8) -> Option<u8>
 fn byte(high: u8, low: u8) -> Option<u8>
     ensures { result ≡ pair (hex_digit high) (hex_digit low) }
 {
-    match digit(high) {
-        None => None,
-        Some(high) => match digit(low) {
-            None => None,
-            Some(low) => Some(high * 16 + low),
-        },
-    }
+    Some(digit(high)? * 16 + digit(low)?)
 }
 
 // The bytes that a word writes.
@@ -40,17 +34,14 @@ pub fn bytes_in(heap: Global, word: &[u8]) -> Result<Vec<u8>, LineFault>
     if same(word, b"-") {
         return Ok(bytes);
     }
-    if word.len() == 0 {
+    if word.is_empty() {
         return Err(LineFault::NoHex);
     }
-    for i in 0..word.len() / 2 {
-        let Some(byte) = byte(word[2 * i], word[2 * i + 1]) else {
-            return Err(LineFault::NoHex);
+    for pair in word.chunks(2) {
+        let [high, low] = pair else {
+            return Err(LineFault::OddHex);
         };
-        bytes.push(byte)?;
-    }
-    if word.len() % 2 == 1 {
-        return Err(LineFault::OddHex);
+        bytes.push(byte(*high, *low).ok_or(LineFault::NoHex)?)?;
     }
     Ok(bytes)
 }

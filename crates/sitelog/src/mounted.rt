@@ -1,8 +1,11 @@
 // A carrier of either kind.
 ghost use Rattle.std.specs.Prelude.{◌≡◌, ◌/◌, IfOk};
+ghost use Rattle.std.specs.Result.{result_ok};
 ghost use Rattle.carrier.specs.Meaning.{vacant};
+ghost use Rattle.sitelog.specs.Lines.{kind_in};
 ghost use Rattle.sitelog.specs.Mounting.{mounted_meaning, place_bytes, mounted_bytes};
 
+use crate::fault::LineFault;
 use carrier::{Carrier, Folded, PutFault, Strip};
 use std::alloc::{AllocError, Global};
 
@@ -12,6 +15,21 @@ pub enum Kind {
     Folded,
 }
 
+impl<'a> TryFrom<&'a [u8]> for Kind {
+    type Error = LineFault;
+
+    ghost try_from_gives = { λ word kind. result_ok kind ≡ kind_in word.now };
+
+    fn try_from(word: &'a [u8]) -> Result<Kind, LineFault> {
+        match word {
+            b"strip" => Ok(Kind::Strip),
+            b"folded" => Ok(Kind::Folded),
+            _ => Err(LineFault::NoKind),
+        }
+    }
+}
+
+// (Not a `dyn Carrier`: a site lends its carriers, and a boxed one can't be lent out of it.)
 #[derive(Drop)]
 pub enum Mounted {
     Strip(Strip),

@@ -1,5 +1,5 @@
 // A site: an adapter and its carriers.
-ghost use Rattle.std.specs.Prelude.{◌≡◌, ◌<◌, vec_len};
+ghost use Rattle.std.specs.Prelude.{◌<◌};
 
 use crate::mounted::Mounted;
 use adapter::Adapter;
@@ -16,6 +16,5 @@ pub struct Place {
 #[derive(Drop)]
 pub struct Site {
     pub adapter: Adapter,
-    carriers: Vec<Option<Mounted>>,
-    ghost places: { vec_len carriers ≡ 16 },
+    carriers: [Option<Mounted>; 16],
 }

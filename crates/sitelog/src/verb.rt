@@ -1,8 +1,9 @@
 // The names of the calls.
 ghost use Rattle.std.specs.Prelude.{◌≡◌};
+ghost use Rattle.std.specs.Result.{result_ok};
 ghost use Rattle.sitelog.specs.Lines.{adapter_verb, carrier_verb, verb_in};
 
-use config::cuts::same;
+use crate::fault::LineFault;
 
 #[derive(Clone, Copy)]
 pub(crate) enum Verb {
@@ -24,20 +25,14 @@ pub(crate) enum Verb {
 fn of_adapter(word: &[u8]) -> Option<Verb>
     ensures { result ≡ adapter_verb word.now }
 {
-    if same(word, b"power") {
-        Some(Verb::Power)
-    } else if same(word, b"hear") {
-        Some(Verb::Hear)
-    } else if same(word, b"loss") {
-        Some(Verb::Loss)
-    } else if same(word, b"record") {
-        Some(Verb::Record)
-    } else if same(word, b"frame") {
-        Some(Verb::Frame)
-    } else if same(word, b"tally") {
-        Some(Verb::Tally)
-    } else {
-        None
+    match word {
+        b"power" => Some(Verb::Power),
+        b"hear" => Some(Verb::Hear),
+        b"loss" => Some(Verb::Loss),
+        b"record" => Some(Verb::Record),
+        b"frame" => Some(Verb::Frame),
+        b"tally" => Some(Verb::Tally),
+        _ => None,
     }
 }
 
@@ -45,31 +40,25 @@ fn of_adapter(word: &[u8]) -> Option<Verb>
 fn of_carrier(word: &[u8]) -> Option<Verb>
     ensures { result ≡ carrier_verb word.now }
 {
-    if same(word, b"carrier") {
-        Some(Verb::Carrier)
-    } else if same(word, b"put") {
-        Some(Verb::Put)
-    } else if same(word, b"empty") {
-        Some(Verb::Empty)
-    } else if same(word, b"read") {
-        Some(Verb::Read)
-    } else if same(word, b"free") {
-        Some(Verb::Free)
-    } else if same(word, b"bytes") {
-        Some(Verb::Bytes)
-    } else {
-        None
+    match word {
+        b"carrier" => Some(Verb::Carrier),
+        b"put" => Some(Verb::Put),
+        b"empty" => Some(Verb::Empty),
+        b"read" => Some(Verb::Read),
+        b"free" => Some(Verb::Free),
+        b"bytes" => Some(Verb::Bytes),
+        _ => None,
     }
 }
 
-impl Verb {
-    // The call that a word names.
-    pub(crate) fn named(word: &[u8]) -> Option<Verb>
-        ensures { result ≡ verb_in word.now }
-    {
-        match of_adapter(word) {
-            Some(verb) => Some(verb),
-            None => of_carrier(word),
-        }
+impl<'a> TryFrom<&'a [u8]> for Verb {
+    type Error = LineFault;
+
+    ghost try_from_gives = { λ word verb. result_ok verb ≡ verb_in word.now };
+
+    fn try_from(word: &'a [u8]) -> Result<Verb, LineFault> {
+        of_adapter(word)
+            .or(of_carrier(word))
+            .ok_or(LineFault::NoCall)
     }
 }

@@ -24,9 +24,7 @@ impl<'a> Words<'a> {
     pub(crate) fn next(&mut self) -> Option<&'a [u8]>
         ensures { MatchOption result (left self.old ≡ []) (λ word. left self.old ≡ word.now ∷ left self.new) }
     {
-        let Some(bytes) = self.rest else {
-            return None;
-        };
+        let bytes = self.rest?;
         let end = find(bytes, b' ');
         self.rest = if end < bytes.len() {
             Some(after(bytes, end))
@@ -36,7 +34,8 @@ impl<'a> Words<'a> {
         Some(&bytes[0..end])
     }
 
-    // No word is left.
+    // No word is left. (One function for every count needs an array of references of any length, whose proof Rattle does not
+    // write yet.)
     pub(crate) fn none(&mut self) -> Result<(), LineFault>
         ensures { NoMore (left self.old) result }
     {
@@ -50,9 +49,7 @@ impl<'a> Words<'a> {
     pub(crate) fn one(&mut self) -> Result<&'a [u8], LineFault>
         ensures { One (left self.old) result }
     {
-        let Some(word) = self.next() else {
-            return Err(LineFault::FieldCount);
-        };
+        let word = self.next().ok_or(LineFault::FieldCount)?;
         self.none()?;
         Ok(word)
     }
@@ -61,9 +58,7 @@ impl<'a> Words<'a> {
     pub(crate) fn two(&mut self) -> Result<(&'a [u8], &'a [u8]), LineFault>
         ensures { Two (left self.old) result }
     {
-        let Some(word) = self.next() else {
-            return Err(LineFault::FieldCount);
-        };
+        let word = self.next().ok_or(LineFault::FieldCount)?;
         let last = self.one()?;
         Ok((word, last))
     }
@@ -72,9 +67,7 @@ impl<'a> Words<'a> {
     pub(crate) fn three(&mut self) -> Result<(&'a [u8], &'a [u8], &'a [u8]), LineFault>
         ensures { Three (left self.old) result }
     {
-        let Some(word) = self.next() else {
-            return Err(LineFault::FieldCount);
-        };
+        let word = self.next().ok_or(LineFault::FieldCount)?;
         let (next, last) = self.two()?;
         Ok((word, next, last))
     }

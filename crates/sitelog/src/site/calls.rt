@@ -13,9 +13,8 @@ use carrier::{Carrier, PutFault};
 use config::table::Config;
 use rules::entry::Entry;
 use std::alloc::{AllocError, Global};
+use std::array;
 
-// A site has so many places for carriers.
-const PLACES: usize = 16;
 // No adapter has a use for more entries: 1,024 for the backlog, and 4,096 for each of four parents.
 const MOST_ENTRIES: usize = 17_408;
 
@@ -34,17 +33,6 @@ impl Place {
     }
 }
 
-// Sixteen places with no carrier.
-fn no_carriers(heap: Global) -> Result<Vec<Option<Mounted>>, AllocError>
-    ensures { IfOk result (λ v. v.items ≡ replicate 16 None) }
-{
-    let mut carriers = Vec::new(heap);
-    for _ in 0..PLACES {
-        carriers.push(None)?;
-    }
-    Ok(carriers)
-}
-
 impl Site {
     // A site at power-up: an adapter of this configuration with so many entries, and no carriers.
     pub fn power(heap: Global, config: Config, entries: usize) -> Result<Site, AllocError>
@@ -58,7 +46,7 @@ impl Site {
         let entries = vec![in heap; unused; entries.min(MOST_ENTRIES)]?;
         Ok(Site {
             adapter: Adapter::new(config, entries),
-            carriers: no_carriers(heap)?,
+            carriers: array::from_fn(|_| None),
         })
     }
 
@@ -82,39 +70,30 @@ impl Site {
     pub fn carrier(&self, place: Place) -> Option<&Mounted>
         ensures { option_map (λ x. x.now) result ≡ carrier_at self.now (index_of place) }
     {
-        match &self.carriers[place.index as usize] {
-            Some(mounted) => Some(mounted),
-            None => None,
-        }
+        self.carriers[place.index as usize].as_ref()
     }
 
     // The oldest record's frame, with the carrier at a place.
     pub fn frame(&mut self, place: Place) -> Option<Result<Framed, Refusal>>
         ensures { MatchOption result (Missing self.old (index_of place) self.new) (λ answer. FramesAt self.old (index_of place) (frame_answer answer) self.new) }
     {
-        match &mut self.carriers[place.index as usize] {
-            Some(mounted) => Some(self.adapter.frame(mounted)),
-            None => None,
-        }
+        let mounted = self.carriers[place.index as usize].as_mut()?;
+        Some(self.adapter.frame(mounted))
     }
 
     // Puts a packet into the carrier at a place by hand.
     pub fn put(&mut self, place: Place, packet: &[u8]) -> Option<Result<(), PutFault>>
         ensures { MatchOption result (Missing self.old (index_of place) self.new) (λ answer. Puts-at self.old (index_of place) packet.now answer self.new) }
     {
-        match &mut self.carriers[place.index as usize] {
-            Some(mounted) => Some(mounted.put(packet)),
-            None => None,
-        }
+        let mounted = self.carriers[place.index as usize].as_mut()?;
+        Some(mounted.put(packet))
     }
 
     // Empties the carrier at a place.
     pub fn empty(&mut self, place: Place) -> Option<()>
         ensures { MatchOption result (Missing self.old (index_of place) self.new) (λ _. EmptiesAt self.old (index_of place) self.new) }
     {
-        match &mut self.carriers[place.index as usize] {
-            Some(mounted) => Some(mounted.empty()),
-            None => None,
-        }
+        let mounted = self.carriers[place.index as usize].as_mut()?;
+        Some(mounted.empty())
     }
 }

@@ -1,25 +1,16 @@
-use Rattle.std.proofs.Common.{Some, None, refl}
-use Rattle.sitelog.proofs.Places.{read_at, left_at}
+use Rattle.std.proofs.Common.{rules, Some, sym, refl}
+use Rattle.sitelog.proofs.Places.{read_at}
 use Rattle.sitelog.proofs.site.Site.put.Goals as goal
 
-pub returns-in-Some : goal.returns-in-Some
-returns-in-Some c =
-    let m = c.in-Some.mounted in
+pub returns : goal.returns
+returns c =
+    let m = c.in_ok-mounted.mounted.now in
     record {
       mounted = m;
       mounted' = c.put.new.self;
-      place = record { there = read_at c.args.self.now c.args.place c.index_mut.result.now (Some m) c.index_mut.ensures.value c.in-Some.is; carriers = refl };
+      place = record { there = read_at c.args.self.now c.args.place.index c.index-self-place.result (Some m) (search rules) (sym c.in_ok-mounted.ensures.value); carriers = refl };
       answer = c.put.ensures.answer;
       stays = c.put.ensures.same;
       taken = c.put.ensures.taken;
       adapter = refl;
-    }
-
-pub returns-in-None : goal.returns-in-None
-returns-in-None c =
-    let at = c.args.self.now in
-    let is = c.index_mut.ensures.value in
-    record {
-      none = read_at at c.args.place c.index_mut.result.now None is c.in-None.is;
-      same = record { adapter = refl; carriers = left_at at c.args.place c.index_mut.result.now is };
     }
