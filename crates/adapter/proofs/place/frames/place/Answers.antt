@@ -1,36 +1,22 @@
-use Rattle.std.proofs.Common.{[], ◌∷◌, sym, ap, ◌∙◌, subst, arith}
+use Rattle.std.proofs.Common.{[], ◌∷◌, sym, ap, subst, arith}
 use Rattle.config.specs.Setup.{setup}
 use Rattle.memory.specs.Memory.{lines_in, backlog_in, size_in}
 use Rattle.adapter.specs.Placing.{Admitted, AllWhole, Goes}
-use Rattle.adapter.proofs.Turns.{going_start, going_more, going_end, has_place, lines_in_order, whole_joins, whole_before}
+use Rattle.adapter.proofs.Turns.{going_start, going_more, going_end, lines_in_order, whole_joins, whole_before}
 use Rattle.adapter.proofs.place.frames.place.Goals as goal
 
 pub loop-slot-init : goal.loop-slot-init
 loop-slot-init g c =
     going_start g.C.Carrier.meaning (setup c.args.config.now) c.args.frame.now c.args.doubt c.args.adding c.args.memory.now _ c.requires.lines_in_order c.requires.all_whole.0 c.requires.all_whole.1 c.requires.doubt_within
 
-pub admit_before-admitted-requires : goal.admit_before-admitted-requires
-admit_before-admitted-requires g c =
-    let h = c.loop-slot.invariant in record {
-      shared = h.shares.size ∙ c.requires.shared;
-      lines_in_order = lines_in_order (lines_in c.loop-slot.memory) h.rises;
-      drops_fit = omega (arith, h.fits, c.requires.few_wait);
-      doubt_within = omega (arith, h.placing.low, h.shares.size, c.requires.shared);
-    }
+pub admit_before-admitted-requires-clause-lines_in_order : goal.admit_before-admitted-requires-clause-lines_in_order
+admit_before-admitted-requires-clause-lines_in_order g c = lines_in_order (lines_in c.loop-slot.memory) c.loop-slot.invariant.rises
 
 pub fill-requires : goal.fill-requires
 fill-requires g c =
     let h = c.loop-slot.invariant in
     let a = c.admit_before-admitted.ensures in
     subst AllWhole (sym a.backlog) (whole_joins (size_in c.loop-slot.memory) (backlog_in c.loop-slot.memory) _ h.whole_backlog (whole_before _ _ h.whole_lines))
-
-pub hand-requires : goal.hand-requires
-hand-requires g c =
-    let h = c.loop-slot.invariant in
-    record {
-      whole = c.fill.ensures.whole;
-      place_free = λ adding. has_place g.C.Carrier.meaning c.args.adding h.put _ _ adding h.goes (omega (arith, h.many, c.requires.places_free adding, ap (λ f. f.slots) c.frame.view_is));
-    }
 
 pub loop-slot-preserved : goal.loop-slot-preserved
 loop-slot-preserved g c =
@@ -40,8 +26,7 @@ loop-slot-preserved g c =
     going_more g.C.Carrier.meaning (setup c.args.config.now) c.args.frame.now c.args.doubt c.args.adding c.args.memory.now c.loop-slot.memory _ _ _ _ _ c.loop-slot.course _ _ c.loop-slot.slot
     c.requires.shared (omega (arith, ap (λ f. f.slots) c.frame.view_is)) h admitted c.fill.ensures.filled goes
 
-pub returns : goal.returns
-returns g c =
-    let done = going_end g.C.Carrier.meaning (setup c.args.config.now) c.args.frame.now c.args.doubt c.args.adding c.args.memory.now c.loop-slot.memory _ _ c.loop-slot.course c.loop-slot.slot
-    (omega (arith, ap (λ f. f.slots) c.frame.view_is)) c.requires.frame_in_range.0 c.loop-slot.invariant in
-    record { placed = done.0; carried = done.1 }
+pub returns-clause-placed : goal.returns-clause-placed
+returns-clause-placed g c =
+    (going_end g.C.Carrier.meaning (setup c.args.config.now) c.args.frame.now c.args.doubt c.args.adding c.args.memory.now c.loop-slot.memory _ _ c.loop-slot.course c.loop-slot.slot
+    (omega (arith, ap (λ f. f.slots) c.frame.view_is)) c.requires.frame_in_range.0 c.loop-slot.invariant).0

@@ -62,15 +62,11 @@ returns c =
       fits = i.3;
     }
 
-pub admit_one-course-requires : goal.admit_one-course-requires
-admit_one-course-requires c =
+pub admit_one-course-requires-clause-drops_fit : goal.admit_one-course-requires-clause-drops_fit
+admit_one-course-requires-clause-drops_fit c =
     let i = c.loop-p.invariant in
     let ls = lines_in c.loop-p.memory in
     let first = c.in-Some.ensures.1 in
     let l = front (get_or ls c.in-Some.p []) c.in-Some.ensures.0 first.first in
     let more = length_merged_first ls c.in-Some.p c.in-Some.ensures.0 l.0 i.1 (earliest c.args.limit ls c.in-Some.p c.in-Some.ensures.0 l.0 first l.1) in
-    record {
-      shared = i.5.size ∙ c.requires.shared;
-      drops_fit = omega (arith, i.3, c.requires.drops_fit);
-      doubt_within = omega (arith, i.0.low, i.5.size);
-    }
+    omega (arith, i.3, c.requires.drops_fit)
