@@ -1,8 +1,8 @@
-use Rattle.std.proofs.Common.{◌≡◌, ℕ, ◌+◌, List, length, Option, sym, ap, ◌∙◌, subst, arith}
+use Rattle.std.proofs.Common.{◌≡◌, ℕ, ◌+◌, List, Option, sym, ap, ◌∙◌, subst, arith}
 use Rattle.std.specs.Option.{option_map}
 use Rattle.memory.specs.Memory.{lines_in, line_in}
 use Rattle.rules.specs.Entries.{Entry}
-use Rattle.adapter.proofs.Nexts.{Best, best_empty, best_stays, best_changes, best_end}
+use Rattle.adapter.proofs.Nexts.{Best, best_empty, best_stays, best_changes}
 use Rattle.adapter.proofs.place.slots.next_line.Goals as goal
 use Rattle.adapter.proofs.place.slots.next_line.Goals.{in-Some+then-entry-bound, in-Some+else-entry-bound, in_default}
 
@@ -25,9 +25,3 @@ loop-p-preserved c =
           same c.args.limit (c.loop-p.p + 1) ls w.bound-is w.next-is
           (best_empty c.args.limit c.loop-p.p ls c.loop-p.bound c.loop-p.next c.loop-p.invariant (sym c.first.ensures ∙ ap (option_map (λ y. y.now)) w.in_default.is))
     ]
-
-pub returns : goal.returns
-returns c =
-    let ls = lines_in c.args.memory.now in
-    let all : c.loop-p.p ≡ length ls = omega (arith, c.parents-p-end.ensures.lines) in
-    best_end c.args.limit ls c.loop-p.bound c.loop-p.next (subst (λ n. Best c.args.limit n ls c.loop-p.bound c.loop-p.next) all c.loop-p.invariant)
