@@ -1,9 +1,10 @@
 // The same packets in a strip and in a folded carrier: what each holds, and in how many bytes.
 #![tactic(auto)]
 
-use anyhow::anyhow;
+use anyhow::Context;
 use carrier::{Carrier, Folded, PutFault, Strip};
 use psi::packet::{Head, is_stuffing, stuffing};
+use std::mem;
 
 // Packets that come in a row.
 #[derive(Clone, Copy)]
@@ -28,11 +29,9 @@ const BYTES: usize = 60_480;
 
 // A packet of this PID with an empty payload.
 fn packet_of(pid: u16) -> [u8; 188] {
+    let [high, low] = pid.to_be_bytes();
     let mut packet = [0; 188];
-    packet[0] = 0x47;
-    packet[1] = (pid >> 8 & 0x1f) as u8;
-    packet[2] = (pid & 0xff) as u8;
-    packet[3] = 0x10;
+    packet[..4].copy_from_slice(&[0x47, high & 0x1f, low, 0x10]);
     packet
 }
 
@@ -56,10 +55,8 @@ fn put_runs<C: Carrier>(carrier: &mut C) -> Result<(), PutFault> {
 }
 
 fn pid_of(packet: &[u8]) -> anyhow::Result<u16> {
-    match Head::of(packet) {
-        Some(head) => Ok(head.pid),
-        None => Err(anyhow!("what is held is no packet")),
-    }
+    let head = Head::of(packet).context("what is held is no packet")?;
+    Ok(head.pid)
 }
 
 // Prints the places and the packets that a carrier holds, stuffing in a row on one line.
@@ -71,16 +68,15 @@ fn show<C: Carrier>(rt: &HostRuntime, name: &str, carrier: &C, used: usize) -> a
     let mut place = [0; 188];
     let mut in_a_row = 0usize;
     for i in 0..held {
-        if carrier.read(i, &mut place).is_none() {
-            return Err(anyhow!("a packet that is held was not read"));
-        }
+        carrier
+            .read(i, &mut place)
+            .context("a packet that is held was not read")?;
         if is_stuffing(&place) {
             in_a_row = in_a_row.saturating_add(1);
-            continue;
+        } else {
+            show_stuffing(rt, mem::take(&mut in_a_row))?;
+            println!(rt; "  PID {}", pid_of(&place)?)?;
         }
-        show_stuffing(rt, in_a_row)?;
-        in_a_row = 0;
-        println!(rt; "  PID {}", pid_of(&place)?)?;
     }
     show_stuffing(rt, in_a_row)
 }
@@ -96,9 +92,8 @@ fn show_stuffing(rt: &HostRuntime, times: usize) -> anyhow::Result<()> {
 fn show_folds(rt: &HostRuntime, folded: &Folded) -> anyhow::Result<()> {
     println!(rt; "its bytes:")?;
     for fold in folded.bytes().chunks_exact(189) {
-        if let Some((count, packet)) = fold.split_last() {
-            println!(rt; "  PID {}, count {count}", pid_of(packet)?)?;
-        }
+        let (count, packet) = fold.split_last().context("a fold is empty")?;
+        println!(rt; "  PID {}, count {count}", pid_of(packet)?)?;
     }
     println!(rt; "  and {} pending", folded.pending())?;
     Ok(())
@@ -107,9 +102,8 @@ fn show_folds(rt: &HostRuntime, folded: &Folded) -> anyhow::Result<()> {
 fn demonstrate(rt: &HostRuntime) -> anyhow::Result<()> {
     let mut strip = Strip::new(vec![in rt.alloc(); 0; BYTES]?);
     let mut folded = Folded::new(vec![in rt.alloc(); 0; BYTES]?);
-    if put_runs(&mut strip).is_err() || put_runs(&mut folded).is_err() {
-        return Err(anyhow!("a packet was refused"));
-    }
+    put_runs(&mut strip)?;
+    put_runs(&mut folded)?;
     show(rt, "strip", &strip, strip.bytes().len())?;
     show(rt, "folded carrier", &folded, folded.bytes().len())?;
     show_folds(rt, &folded)
