@@ -67,6 +67,7 @@ fn show<C: Carrier>(rt: &HostRuntime, name: &str, carrier: &C, used: usize) -> a
     println!(rt; "{name}: {held} packets in {used} bytes, {free} of {capacity} places free")?;
     let mut place = [0; 188];
     let mut in_a_row = 0usize;
+    // A carrier lends no packets: each is copied into a place, by its number.
     for i in 0..held {
         carrier
             .read(i, &mut place)

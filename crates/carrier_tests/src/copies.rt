@@ -12,6 +12,7 @@ pub fn copy_all<F: Carrier, T: Carrier>(from: &F, to: &mut T) -> Result<(), PutF
     ensures enough { AllFramed (F.Carrier.meaning from.now).packets → length (F.Carrier.meaning from.now).packets ≤ (T.Carrier.meaning to.old).free → is_ok result ≡ true }
 {
     let mut packet = [0; LENGTH];
+    // A carrier lends no packets: each is copied into a place, by its number.
     for i in 0..from.held() {
         let _ = from.read(i, &mut packet);
         to.put(&packet)?;
