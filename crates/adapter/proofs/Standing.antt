@@ -22,7 +22,7 @@ use Rattle.adapter.proofs.Keeping.{Quiet}
 use Rattle.adapter.proofs.Views.{parents_get_or}
 
 pub checked : (a : Adapter) → Checked (setup_of a)
-checked a = record { settings = a.config.settings; parents = a.config.parents }
+checked a = record { settings = a.config.in_range; parents = a.config.parents }
 
 pub line_count : (a : Adapter) → length (lines_in a.memory) ≡ length (vec_items a.config.rates)
 line_count a = omega (arith, length_lines a.memory, a.parents, a.config.rates.ok.0)
@@ -65,7 +65,7 @@ module _ (a : Adapter) (f : Frame) (rest : List Frame) (first : (view a).records
   slots_some =
       let copies : (setup_of a).copies ≤ f.slots =
       ∥∥₁_elim a.reached le_prop (λ l. (subst (AllInRange (setup_of a)) first (fit (setup_of a) (entries_of a) l.0 (view a) l.1).records).0.enough) in
-      omega (arith, a.config.settings.2)
+      omega (arith, a.config.in_range.2)
 
 moved_none : (m : ℕ) (t : Option Times) → None ≡ moved m (parent_of t []) → t ≡ None
 moved_none m None e = refl

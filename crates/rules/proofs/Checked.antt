@@ -4,4 +4,4 @@ use Rattle.config.specs.Setup.{setup}
 use Rattle.rules.specs.State.{Checked}
 
 pub checked : (config : Config) → Checked (setup config)
-checked config = record { settings = config.settings; parents = config.parents }
+checked config = record { settings = config.in_range; parents = config.parents }

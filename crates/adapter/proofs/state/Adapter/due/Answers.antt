@@ -80,7 +80,7 @@ returns-then-frame-since c =
 pub overflow_add-end : goal.overflow_add-end
 overflow_add-end c =
     let d = (goal.at.overflow_add-end c).After-latest in
-    omega (arith, ap (λ f. f.start) c.frame.view_is, start_low c.args.self.now c.in_ok-frame.frame (first d).0 (first d).1, c.ticks.ensures, c.from.ensures, c.args.self.now.config.settings.0)
+    omega (arith, ap (λ f. f.start) c.frame.view_is, start_low c.args.self.now c.in_ok-frame.frame (first d).0 (first d).1, c.ticks.ensures, c.from.ensures, c.args.self.now.config.in_range.0)
 
 pub returns-then-not-heard_until : goal.returns-then-not-heard_until
 returns-then-not-heard_until c =

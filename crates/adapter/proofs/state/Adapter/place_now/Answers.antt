@@ -22,7 +22,7 @@ use Rattle.adapter.proofs.state.Adapter.place_now.Goals.{After-after-self}
 pub overflow_add-end : goal.overflow_add-end
 overflow_add-end g c =
     let a = c.args.self.now in
-    omega (arith, ap (λ f. f.start) c.frame.view_is, start_low a c.args.frame c.requires.placeable_now.rest c.requires.placeable_now.due.called.oldest, c.ticks.ensures, c.from.ensures, a.config.settings.0)
+    omega (arith, ap (λ f. f.start) c.frame.view_is, start_low a c.args.frame c.requires.placeable_now.rest c.requires.placeable_now.due.called.oldest, c.ticks.ensures, c.from.ensures, a.config.in_range.0)
 
 pub place-course-requires : goal.place-course-requires
 place-course-requires g c =
