@@ -30,7 +30,7 @@ pub(crate) fn in_range(config: &Config, frame: &Frame) -> bool
     config.copies() <= frame.slots && frame.slots <= MOST_SLOTS && frame.start <= LATEST
 }
 
-// Whether number and start are one and one frame length more than in the last record.
+// Whether number and start are one and one frame length more than in the last record. Differences, since a sum may not fit.
 fn follows(last: &Frame, ticks: u32, frame: &Frame) -> bool
     ensures { Decides result ((frame.now.number ≡ last.now.number + 1) × (frame.now.start ≡ last.now.start + ticks)) }
 {

@@ -3,6 +3,7 @@ ghost use Rattle.std.specs.Prelude.{◌^◌, ◌≤◌};
 
 pub(crate) mod stamp;
 
+// It has ghost fields, so each literal gives every field.
 #[derive(Clone, Copy)]
 pub(crate) struct Times {
     // When its last anchor arrived.

@@ -33,6 +33,7 @@ fn next_line(memory: &Memory<Entry>, limit: u64) -> Option<usize>
 }
 
 // The first entry of a line joins the backlog, or is dropped if the backlog is full; the doubt rises, as far as the backlog's size.
+// `shared` is asked at each step of placing: memory and configuration are two values here, and only an adapter has them as one.
 fn admit_one(config: &Config, memory: &mut Memory<Entry>, p: usize, course: Course) -> Course
     requires shared { size_in memory.old ≡ (setup config.now).backlog }
     requires drops_fit { course.drops + 1 < 2 ^ 32 }
