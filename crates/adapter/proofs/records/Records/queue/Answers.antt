@@ -1,4 +1,4 @@
-use Rattle.std.proofs.Common.{◌≡◌, true, false, cond, ltb, length, is_ok, Some, sym, ap, ◌∙◌, arith}
+use Rattle.std.proofs.Common.{◌≡◌, true, cond, ltb, length, is_ok, Some, sym, ap, ◌∙◌, arith}
 use Rattle.waiting.specs.Waiting.{waits}
 use Rattle.adapter.specs.Queue.{waiting_in}
 use Rattle.adapter.proofs.records.Records.queue.Goals as goal
@@ -14,13 +14,8 @@ returns-then-is_ok c =
       last = ap (λ b. cond b (Some c.args.frame) c.args.self.now.last) (sym ok);
     }
 
-pub returns-else-is_ok : goal.returns-else-is_ok
+pub returns-else-is_ok-clause-test : goal.returns-else-is_ok-clause-test
 unfolding waiting_in
-returns-else-is_ok c =
+returns-else-is_ok-clause-test c =
     let places : length c.args.self.now.frames ≡ 8 = omega arith in
-    let no : is_ok c.join-joined.result ≡ false = cc in
-    record {
-      test = c.join-joined.ensures.test ∙ ap (λ n. ltb (length (waits c.args.self.now.line c.args.self.now.frames)) n) places;
-      waits = c.join-joined.ensures.after;
-      last = ap (λ b. cond b (Some c.args.frame) c.args.self.now.last) (sym no);
-    }
+    c.join-joined.ensures.test ∙ ap (λ n. ltb (length (waits c.args.self.now.line c.args.self.now.frames)) n) places
