@@ -1,9 +1,9 @@
 // A log, line by line.
 use crate::reply::Reply;
 use crate::site::Site;
-use crate::stop::Stop;
 use sitelog::fault::Fault;
 use sitelog::line::{is_silent, read_line};
+use sitelog::stop::Stop;
 use std::alloc::Global;
 use std::io::{BufRead, BufReader, Read, Write};
 
@@ -29,14 +29,16 @@ where
     let mut number = 0u64;
     for line in BufReader::new(heap, log)?.lines(heap) {
         number = number.saturating_add(1);
-        let reply = match line {
-            Ok(line) => answer(heap, site, line.as_bytes()),
-            Err(error) => Err(Fault::Unreadable(error)),
-        };
-        match reply {
-            Ok(Some(reply)) => writeln!(out, "{reply}")?,
-            Ok(None) => {}
-            Err(fault) => return Err(Stop::Line(number, fault)),
+        let reply = line
+            .map_err(Fault::Unreadable)
+            .and_then(|line| answer(heap, site, line.as_bytes()))
+            .map_err(|fault| Stop::Line {
+                log: None,
+                number,
+                fault,
+            })?;
+        if let Some(reply) = reply {
+            writeln!(out, "{reply}")?;
         }
     }
     Ok(())

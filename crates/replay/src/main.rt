@@ -25,53 +25,27 @@ mod log;
 mod observer;
 mod reply;
 mod site;
-mod stop;
 #[cfg(test)]
 mod tests;
 
-use config::answer::answer_line;
 use log::replay;
 use site::Site;
-use std::fs::File;
-use std::io::{BufWriter, Read, Write};
+use sitelog::accepted::Accepted;
+use sitelog::stop::{Stop, open};
+use std::env;
+use std::io::{BufWriter, Write};
 use std::process::ExitCode;
-use std::{env, fs};
-use stop::Stop;
-
-// One byte more than a configuration may have, so that a longer one is seen to be too long and read no further.
-const ENOUGH: u64 = 16_385;
-
-fn open(rt: &HostRuntime, path: &str) -> Result<File, Stop> {
-    match fs::open(rt, path) {
-        Ok(file) => Ok(file),
-        Err(error) => Err(Stop::File(String::from_str(rt.alloc(), path)?, error)),
-    }
-}
-
-// The text of a configuration that is accepted.
-fn config_text(rt: &HostRuntime, path: &str) -> Result<Vec<u8>, Stop> {
-    let mut text = Vec::new(rt.alloc());
-    open(rt, path)?.take(ENOUGH).read_to_end(&mut text)?;
-    let line = answer_line(rt.alloc(), text.as_slice())?;
-    if line.as_str().starts_with("ok") {
-        Ok(text)
-    } else {
-        Err(Stop::Refused(line))
-    }
-}
 
 fn run(rt: &HostRuntime) -> Result<(), Stop> {
     let heap = rt.alloc();
     let mut words = env::args(rt)?;
     let _program = words.next();
-    let Some(path) = words.next() else {
-        return Err(Stop::Usage);
-    };
+    let path = words.next().ok_or(Stop::Usage)?;
     let log = words.next();
     if words.next().is_some() {
         return Err(Stop::Usage);
     }
-    let mut site = Site::new(heap, config_text(rt, path.as_str())?);
+    let mut site = Site::new(heap, Accepted::read(rt, path.as_str())?);
     let mut out = BufWriter::new(heap, rt.stdout())?;
     let ended = match log {
         Some(log) => replay(heap, &mut site, open(rt, log.as_str())?, &mut out),
@@ -85,6 +59,7 @@ fn main(rt: HostRuntime) -> ExitCode {
     let told = match run(&rt) {
         Ok(()) => return ExitCode::SUCCESS,
         Err(Stop::Refused(line)) => rt.println(line.as_str()),
+        Err(Stop::Usage) => rt.eprintln("usage: replay CONFIG [LOG]"),
         Err(stop) => rt.eprintln(&stop),
     };
     // Where the words can't be written either, the status tells.

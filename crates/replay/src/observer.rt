@@ -44,12 +44,8 @@ pub(crate) struct Observer {
 
 // Whether a slot is for a PAT copy.
 fn is_for_pat(slot: u32, slots: u32, copies: u32) -> bool {
-    for copy in 0..copies {
-        if u64::from(copy) * u64::from(slots) / u64::from(copies) == u64::from(slot) {
-            return true;
-        }
-    }
-    false
+    (0..copies).any(|copy| u64::from(copy) * u64::from(slots) / u64::from(copies)
+        == u64::from(slot))
 }
 
 impl Observer {
@@ -133,12 +129,7 @@ impl Observer {
 
     // The accepted record of a frame.
     fn record_of(&self, number: u32) -> Option<Frame> {
-        let frame = self.records[number as usize % PLACES]?;
-        if frame.number == number {
-            Some(frame)
-        } else {
-            None
-        }
+        self.records[number as usize % PLACES].filter(|frame| frame.number == number)
     }
 
     // Lets go of what arrives before a moment, and says how much that is.

@@ -2,8 +2,8 @@
 use crate::observer::Observer;
 use crate::reply::Reply;
 use carrier::Carrier;
-use config::check::check;
 use rules::entry::Frame;
+use sitelog::accepted::Accepted;
 use sitelog::call::{Call, Packet, Use};
 use sitelog::fault::Fault;
 use sitelog::mounted::{Kind, Mounted};
@@ -20,23 +20,20 @@ struct Powered {
 // The packet of an index.
 fn packet(heap: Global, carrier: &Mounted, index: usize) -> Result<Reply, AllocError> {
     let mut place = [0; 188];
-    match carrier.read(index, &mut place) {
-        Some(()) => Ok(Reply::Bytes(place.to_vec(heap)?)),
-        None => Ok(Reply::Nothing),
-    }
+    Ok(match carrier.read(index, &mut place) {
+        Some(()) => Reply::Bytes(place.to_vec(heap)?),
+        None => Reply::Nothing,
+    })
 }
 
 impl Powered {
-    fn new(heap: Global, text: &[u8], entries: usize) -> Result<Powered, Fault> {
-        // The text was accepted before, so only memory can be wanting.
-        let Ok(config) = check(heap, text) else {
-            return Err(Fault::Memory);
-        };
+    fn new(heap: Global, accepted: &Accepted, entries: usize) -> Result<Powered, Fault> {
+        let config = accepted.config(heap)?;
         let observer = Observer::new(heap, &config)?;
-        match sitelog::site::Site::power(heap, config, entries) {
-            Ok(site) => Ok(Powered { site, observer }),
-            Err(_) => Err(Fault::EntriesMemory),
-        }
+        let site = sitelog::site::Site::power(heap, config, entries).map_err(
+            |_| Fault::EntriesMemory,
+        )?;
+        Ok(Powered { site, observer })
     }
 
     fn mount(
@@ -46,10 +43,10 @@ impl Powered {
         kind: Kind,
         bytes: usize,
     ) -> Result<Reply, Fault> {
-        match self.site.mount(heap, place, kind, bytes) {
-            Ok(capacity) => Ok(Reply::Capacity(capacity)),
-            Err(_) => Err(Fault::CarrierMemory),
-        }
+        self.site
+            .mount(heap, place, kind, bytes)
+            .map(Reply::Capacity)
+            .map_err(|_| Fault::CarrierMemory)
     }
 
     fn hear(&mut self, packet: Packet) -> Result<Reply, Fault> {
@@ -60,19 +57,13 @@ impl Powered {
         } = packet;
         let answer = self.site.adapter.hear(parent, bytes.as_slice(), time);
         self.observer.hear(parent, time, answer)?;
-        match answer {
-            Ok(heard) => Ok(Reply::Heard(heard)),
-            Err(refusal) => Ok(Reply::Refused(refusal)),
-        }
+        Ok(answer.map_or_else(Reply::Refused, Reply::Heard))
     }
 
     fn loss(&mut self, parent: usize) -> Reply {
         let answer = self.site.adapter.loss(parent);
         self.observer.loss(parent, answer);
-        match answer {
-            Ok(_) => Reply::Lost,
-            Err(refusal) => Reply::Refused(refusal),
-        }
+        answer.map_or_else(Reply::Refused, Reply::Lost)
     }
 
     fn record(&mut self, frame: Frame) -> Reply {
@@ -81,49 +72,31 @@ impl Powered {
             .adapter
             .record(frame.number, frame.start, frame.slots);
         self.observer.record(frame, answer);
-        match answer {
-            Ok(recorded) => Reply::Recorded(recorded),
-            Err(refusal) => Reply::Refused(refusal),
-        }
+        answer.map_or_else(Reply::Refused, Reply::Recorded)
     }
 
     fn frame(&mut self, place: Place) -> Result<Reply, Fault> {
-        let Some(answer) = self.site.frame(place) else {
-            return Err(Fault::NoCarrier);
-        };
+        let answer = self.site.frame(place).ok_or(Fault::NoCarrier)?;
         self.observer.frame(answer);
-        match answer {
-            Ok(framed) => Ok(Reply::Framed(framed)),
-            Err(refusal) => Ok(Reply::Refused(refusal)),
-        }
+        Ok(answer.map_or_else(Reply::Refused, Reply::Framed))
     }
 
     fn put(&mut self, place: Place, packet: &[u8]) -> Result<Reply, Fault> {
-        match self.site.put(place, packet) {
-            Some(Ok(())) => Ok(Reply::Put),
-            Some(Err(fault)) => Ok(Reply::PutRefused(fault)),
-            None => Err(Fault::NoCarrier),
-        }
-    }
-
-    fn empty(&mut self, place: Place) -> Result<Reply, Fault> {
-        match self.site.empty(place) {
-            Some(()) => Ok(Reply::Emptied),
-            None => Err(Fault::NoCarrier),
-        }
+        let answer = self.site.put(place, packet).ok_or(Fault::NoCarrier)?;
+        Ok(answer.map_or_else(Reply::PutRefused, |()| Reply::Put))
     }
 
     fn carrier(&self, place: Place) -> Result<&Mounted, Fault> {
-        match self.site.carrier(place) {
-            Some(carrier) => Ok(carrier),
-            None => Err(Fault::NoCarrier),
-        }
+        self.site.carrier(place).ok_or(Fault::NoCarrier)
     }
 
     fn serve(&mut self, heap: Global, place: Place, what: &Use) -> Result<Reply, Fault> {
         match what {
             Use::Put(packet) => self.put(place, packet.as_slice()),
-            Use::Empty => self.empty(place),
+            Use::Empty => {
+                self.site.empty(place).ok_or(Fault::NoCarrier)?;
+                Ok(Reply::Emptied)
+            }
             Use::Read(index) => Ok(packet(heap, self.carrier(place)?, *index)?),
             Use::Free => {
                 let carrier = self.carrier(place)?;
@@ -137,34 +110,32 @@ impl Powered {
     }
 }
 
-// A site by its configuration text, which was accepted.
+// A site by its configuration. (That it goes from call to call here, and in `racks` too, is no twin: here every answer is
+// kept to be printed, there only what tells of the site, with the carrier before and after a frame.)
 #[derive(Drop)]
 pub(crate) struct Site {
     heap: Global,
-    text: Vec<u8>,
+    accepted: Accepted,
     // Nothing before the first `power`.
     powered: Option<Powered>,
 }
 
 impl Site {
-    pub(crate) fn new(heap: Global, text: Vec<u8>) -> Site {
+    pub(crate) fn new(heap: Global, accepted: Accepted) -> Site {
         Site {
             heap,
-            text,
+            accepted,
             powered: None,
         }
     }
 
     fn power(&mut self, count: usize) -> Result<Reply, Fault> {
-        self.powered = Some(Powered::new(self.heap, self.text.as_slice(), count)?);
+        self.powered = Some(Powered::new(self.heap, &self.accepted, count)?);
         Ok(Reply::On)
     }
 
     fn running(&mut self) -> Result<&mut Powered, Fault> {
-        match &mut self.powered {
-            Some(site) => Ok(site),
-            None => Err(Fault::NoPower),
-        }
+        self.powered.as_mut().ok_or(Fault::NoPower)
     }
 
     // What the site answers to a call.

@@ -5,6 +5,7 @@ use crate::reply::Reply;
 use crate::site::Site;
 use crate::tests::weather::Weather;
 use adapter::answer::Framed;
+use sitelog::accepted::Accepted;
 use sitelog::call::{Call, Packet};
 use sitelog::mounted::Kind;
 use sitelog::site::Place;
@@ -17,15 +18,13 @@ mod weather;
 const CONFIG: &[u8] =
     b"ticks backlog copies tsid\n10000 3 2 7\n\nparent rate\n0 100000000\n1 100000000\n\nparent pid out kind service\n0 256 512 pass 0\n1 257 513 pass 0\n";
 
-fn new_site(heap: Global) -> Result<Site, AllocError> {
-    Ok(Site::new(heap, CONFIG.to_vec(heap)?))
+fn new_site(heap: Global) -> Result<Site, Fail> {
+    let accepted = Accepted::of(heap, CONFIG.to_vec(heap)?).map_err(Fail::new)?;
+    Ok(Site::new(heap, accepted))
 }
 
 fn answer(site: &mut Site, call: Call) -> Result<Reply, Fail> {
-    match site.answer(call) {
-        Ok(reply) => Ok(reply),
-        Err(fault) => Err(Fail::new(fault)),
-    }
+    site.answer(call).map_err(Fail::new)
 }
 
 fn powered(heap: Global, entries: usize) -> Result<Site, Fail> {
@@ -193,9 +192,7 @@ fn seen_more(seen: Seen, framed: &Framed) -> Seen {
 fn adds_only_from_clear(rt: HostRuntime) -> Result<(), Fail> {
     let heap = rt.alloc();
     let mut site = powered(heap, 80)?;
-    let Some(place) = Place::of(0) else {
-        return Err(Fail::new("no place"));
-    };
+    let place = Place::of(0).ok_or_else(|| Fail::new("no place"))?;
     let _capacity = answer(
         &mut site,
         Call::Carrier {
