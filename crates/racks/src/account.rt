@@ -2,12 +2,10 @@
 use crate::records::Record;
 use adapter::answer::{Heard, Recorded, Refusal};
 use agreement::Added;
+use feed::known::Known;
 use rules::entry::Frame;
 use sitelog::call::Packet;
 use std::alloc::{AllocError, Global};
-
-// Ticks that a packet of 188 bytes takes, times bits per second.
-const PACKET_TICKS: u64 = 40_608_000_000;
 
 // A packet that was taken from a parent.
 #[derive(Drop)]
@@ -20,63 +18,33 @@ pub(crate) struct Taken {
     pub(crate) begins: bool,
 }
 
-// A packet that was handed with a time, and how many were taken after it.
-#[derive(Clone, Copy)]
-struct Anchor {
-    time: u64,
-    count: u64,
-}
-
 // What is told of a parent.
 #[derive(Drop)]
 pub(crate) struct Parent {
-    rate: u64,
-    // The last anchor since power-up or the last loss.
-    anchor: Option<Anchor>,
+    rate: u32,
+    // What the packets taken since power-up or the last loss tell, from an anchor on.
+    known: Option<Known>,
     // Every packet that was taken and has an arrival.
     pub(crate) taken: Vec<Taken>,
 }
 
-// How long after its anchor the k-th packet arrives. (No checked rate is 0.)
-fn after(rate: u64, count: u64) -> u64 {
-    count
-        .saturating_mul(PACKET_TICKS)
-        .checked_div(rate)
-        .unwrap_or(0)
-}
-
 impl Parent {
-    // The anchor and the count of the next packet taken, or none where there is no anchor yet.
-    fn count_on(&self, time: Option<u64>) -> Option<Anchor> {
-        match time {
-            Some(time) => Some(Anchor { time, count: 0 }),
-            None => {
-                let last = self.anchor?;
-                Some(Anchor {
-                    time: last.time,
-                    count: last.count.saturating_add(1),
-                })
-            }
-        }
-    }
-
     fn take(&mut self, time: Option<u64>, bytes: Vec<u8>) -> Result<(), AllocError> {
-        let begins = self.anchor.is_none();
-        let Some(anchor) = self.count_on(time) else {
-            return Ok(());
-        };
-        self.anchor = Some(anchor);
-        self.taken.push(Taken {
-            arrival: anchor.time.saturating_add(after(self.rate, anchor.count)),
-            time,
-            bytes,
-            begins,
-        })?;
+        let begins = self.known.is_none();
+        self.known = Known::after(self.known, time, self.rate);
+        if let Some(known) = self.known {
+            self.taken.push(Taken {
+                arrival: known.heard_to,
+                time,
+                bytes,
+                begins,
+            })?;
+        }
         Ok(())
     }
 
     fn lose(&mut self) {
-        self.anchor = None;
+        self.known = None;
     }
 }
 
@@ -93,8 +61,8 @@ impl Account {
         let mut parents = Vec::new(heap);
         for rate in rates {
             parents.push(Parent {
-                rate: u64::from(*rate),
-                anchor: None,
+                rate: *rate,
+                known: None,
                 taken: Vec::new(heap),
             })?;
         }

@@ -1,6 +1,8 @@
 // Frames that both sites added, packet by packet.
 use agreement::{Added, differ_at};
+use sitelog::hex::Hex;
 use std::alloc::{AllocError, Global};
+use std::fmt;
 
 // A packet has so many bytes.
 const PACKET: usize = 188;
@@ -20,6 +22,26 @@ pub(crate) struct Differences {
     pub(crate) shown: Vec<Difference>,
     // How many more there are.
     pub(crate) more: usize,
+}
+
+impl fmt::Display for Difference {
+    fn fmt<W: fmt::Write>(&self, f: &mut fmt::Formatter<W>) -> fmt::Result {
+        writeln!(f, "difference frame {} slot {}", self.frame, self.slot)?;
+        writeln!(f, "{}", Hex(self.one.as_slice()))?;
+        writeln!(f, "{}", Hex(self.other.as_slice()))
+    }
+}
+
+impl fmt::Display for Differences {
+    fn fmt<W: fmt::Write>(&self, f: &mut fmt::Formatter<W>) -> fmt::Result {
+        for difference in self.shown.iter() {
+            write!(f, "{difference}")?;
+        }
+        if self.more > 0 {
+            writeln!(f, ".. and {} more", self.more)?;
+        }
+        Ok(())
+    }
 }
 
 // The packet in a slot; nothing behind the last.
@@ -69,10 +91,8 @@ impl Differences {
 
     // A frame against those of the other site.
     fn add_against(&mut self, heap: Global, x: &Added, second: &[Added]) -> Result<(), AllocError> {
-        for y in second {
-            if x.number == y.number {
-                self.add_frames(heap, x, y)?;
-            }
+        for y in second.iter().filter(|y| y.number == x.number) {
+            self.add_frames(heap, x, y)?;
         }
         Ok(())
     }

@@ -20,52 +20,25 @@ mod comparison;
 mod log;
 mod records;
 mod report;
-mod stop;
 mod streams;
 #[cfg(test)]
 mod tests;
 
 use account::Account;
-use config::answer::answer_line;
 use log::replay;
 use report::Report;
-use std::fs::File;
-use std::io::Read;
+use sitelog::accepted::Accepted;
+use sitelog::stop::{Stop, open};
+use std::env;
 use std::process::ExitCode;
-use std::{env, fs};
-use stop::Stop;
-
-// One byte more than a configuration may have, so that a longer one is seen to be too long and read no further.
-const ENOUGH: u64 = 16_385;
-
-fn open(rt: &HostRuntime, path: &str) -> Result<File, Stop> {
-    match fs::open(rt, path) {
-        Ok(file) => Ok(file),
-        Err(error) => Err(Stop::File(String::from_str(rt.alloc(), path)?, error)),
-    }
-}
-
-// The text of a configuration that is accepted.
-fn config_text(rt: &HostRuntime, path: &str) -> Result<Vec<u8>, Stop> {
-    let mut text = Vec::new(rt.alloc());
-    open(rt, path)?.take(ENOUGH).read_to_end(&mut text)?;
-    let line = answer_line(rt.alloc(), text.as_slice())?;
-    if line.as_str().starts_with("ok") {
-        Ok(text)
-    } else {
-        Err(Stop::Refused(line))
-    }
-}
 
 // What the log of a file tells.
-fn account_of(rt: &HostRuntime, text: &[u8], path: &str) -> Result<Account, Stop> {
-    match replay(rt.alloc(), text, open(rt, path)?) {
-        Ok(account) => Ok(account),
-        Err((line, fault)) => Err(Stop::Line(String::from_str(rt.alloc(), path)?, line, fault)),
-    }
+fn account_of(rt: &HostRuntime, accepted: &Accepted, path: &str) -> Result<Account, Stop> {
+    replay(rt.alloc(), accepted, path, open(rt, path)?)
 }
 
-fn run(rt: &HostRuntime) -> Result<(), Stop> {
+// Compares the two logs: whether every frame that both sites added is equal.
+fn run(rt: &HostRuntime) -> Result<bool, Stop> {
     let mut words = env::args(rt)?;
     let _program = words.next();
     let (Some(config), Some(first), Some(second), None) = (
@@ -76,23 +49,20 @@ fn run(rt: &HostRuntime) -> Result<(), Stop> {
     ) else {
         return Err(Stop::Usage);
     };
-    let text = config_text(rt, config.as_str())?;
-    let one = account_of(rt, text.as_slice(), first.as_str())?;
-    let other = account_of(rt, text.as_slice(), second.as_str())?;
+    let accepted = Accepted::read(rt, config.as_str())?;
+    let one = account_of(rt, &accepted, first.as_str())?;
+    let other = account_of(rt, &accepted, second.as_str())?;
     let report = Report::new(rt.alloc(), &one, &other)?;
     rt.print(&report)?;
-    if report.all_equal() {
-        Ok(())
-    } else {
-        Err(Stop::Unequal)
-    }
+    Ok(report.all_equal())
 }
 
 fn main(rt: HostRuntime) -> ExitCode {
     let told = match run(&rt) {
-        Ok(()) => return ExitCode::SUCCESS,
-        Err(Stop::Unequal) => Ok(()),
+        Ok(true) => return ExitCode::SUCCESS,
+        Ok(false) => Ok(()),
         Err(Stop::Refused(line)) => rt.println(line.as_str()),
+        Err(Stop::Usage) => rt.eprintln("usage: racks CONFIG LOG LOG"),
         Err(stop) => rt.eprintln(&stop),
     };
     // Where the words can't be written either, the status tells.

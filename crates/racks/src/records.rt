@@ -1,7 +1,8 @@
 // Accepted records: those of one number are to be equal.
 use std::alloc::{AllocError, Global};
+use std::collections::{BTreeMap, BTreeSet};
 
-#[derive(Clone, Copy, PartialEq, Eq, PartialOrd, Ord)]
+#[derive(Clone, Copy, PartialEq, Eq)]
 pub(crate) struct Record {
     pub(crate) number: u32,
     pub(crate) start: u64,
@@ -13,21 +14,19 @@ pub(crate) fn differing(
     heap: Global,
     first: &[Record],
     second: &[Record],
-) -> Result<Vec<u32>, AllocError> {
-    let mut all = Vec::new(heap);
-    all.extend_from_slice(first)?;
-    all.extend_from_slice(second)?;
-    all.sort()?;
-    let mut numbers: Vec<u32> = Vec::new(heap);
-    let mut last: Option<Record> = None;
-    for record in all.iter() {
-        if let Some(before) = last {
-            let is_known = numbers.last().copied() == Some(record.number);
-            if before.number == record.number && before != *record && !is_known {
-                numbers.push(record.number)?;
+) -> Result<BTreeSet<u32>, AllocError> {
+    let mut known = BTreeMap::new(heap);
+    let mut numbers = BTreeSet::new(heap);
+    for record in first.iter().chain(second) {
+        match known.get(&record.number) {
+            Some(before) if before == record => {}
+            Some(_) => {
+                numbers.insert(record.number)?;
+            }
+            None => {
+                known.insert(record.number, *record)?;
             }
         }
-        last = Some(*record);
     }
     Ok(numbers)
 }

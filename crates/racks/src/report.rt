@@ -1,11 +1,11 @@
 // What is told of two sites.
 use crate::account::{Account, Parent};
-use crate::comparison::{Difference, Differences};
+use crate::comparison::Differences;
 use crate::records::differing;
 use crate::streams::broken_at;
 use agreement::{agreed_from, in_common};
-use sitelog::hex::Hex;
 use std::alloc::{AllocError, Global};
+use std::collections::BTreeSet;
 use std::fmt;
 
 // A parent whose packets do not follow one another, and where.
@@ -15,10 +15,20 @@ struct Break {
     arrival: u64,
 }
 
+impl fmt::Display for Break {
+    fn fmt<W: fmt::Write>(&self, f: &mut fmt::Formatter<W>) -> fmt::Result {
+        let Break { parent, arrival } = self;
+        write!(
+            f,
+            "packets of parent {parent} do not follow one another at {arrival}"
+        )
+    }
+}
+
 #[derive(Drop)]
 pub(crate) struct Report {
     // Premises that fail.
-    records: Vec<u32>,
+    records: BTreeSet<u32>,
     breaks: Vec<Break>,
     differences: Differences,
     common: usize,
@@ -54,45 +64,15 @@ impl Report {
     }
 }
 
-fn show_difference<W: fmt::Write>(
-    f: &mut fmt::Formatter<W>,
-    difference: &Difference,
-) -> fmt::Result {
-    let frame = difference.frame;
-    let slot = difference.slot;
-    writeln!(f, "difference frame {frame} slot {slot}")?;
-    writeln!(f, "{}", Hex(difference.one.as_slice()))?;
-    writeln!(f, "{}", Hex(difference.other.as_slice()))
-}
-
-fn show_differences<W: fmt::Write>(
-    f: &mut fmt::Formatter<W>,
-    differences: &Differences,
-) -> fmt::Result {
-    for difference in differences.shown.iter() {
-        show_difference(f, difference)?;
-    }
-    let more = differences.more;
-    if more > 0 {
-        writeln!(f, ".. and {more} more")?;
-    }
-    Ok(())
-}
-
 impl fmt::Display for Report {
     fn fmt<W: fmt::Write>(&self, f: &mut fmt::Formatter<W>) -> fmt::Result {
         for number in self.records.iter() {
             writeln!(f, "records of frame {number} differ")?;
         }
         for at in self.breaks.iter() {
-            let parent = at.parent;
-            let arrival = at.arrival;
-            writeln!(
-                f,
-                "packets of parent {parent} do not follow one another at {arrival}"
-            )?;
+            writeln!(f, "{at}")?;
         }
-        show_differences(f, &self.differences)?;
+        write!(f, "{}", self.differences)?;
         let common = self.common;
         writeln!(f, "both added {common}")?;
         match self.agreed {

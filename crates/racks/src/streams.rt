@@ -2,34 +2,19 @@
 use crate::account::Taken;
 use std::alloc::{AllocError, Global};
 
-#[derive(Clone, Copy, PartialEq, Eq, PartialOrd, Ord)]
-enum Side {
-    First,
-    Second,
-}
-
-// Where a packet stands among all that were taken.
-#[derive(Clone, Copy, PartialEq, Eq, PartialOrd, Ord)]
-struct Spot {
-    arrival: u64,
-    side: Side,
-    index: usize,
-    // Whether it is the first, and the last, that was taken between two losses.
-    begins: bool,
+// A packet among all that were taken.
+#[derive(Clone, Copy)]
+struct Spot<'a> {
+    taken: &'a Taken,
+    // Whether it is the last that was taken between two losses.
     ends: bool,
 }
 
-fn note(spots: &mut Vec<Spot>, side: Side, taken: &[Taken]) -> Result<(), AllocError> {
+fn note<'a>(spots: &mut Vec<Spot<'a>>, taken: &'a [Taken]) -> Result<(), AllocError> {
     for (index, packet) in taken.iter().enumerate() {
-        let ends = match taken.get(index + 1) {
-            Some(next) => next.begins,
-            None => true,
-        };
+        let ends = taken.get(index + 1).is_none_or(|next| next.begins);
         spots.push(Spot {
-            arrival: packet.arrival,
-            side,
-            index,
-            begins: packet.begins,
+            taken: packet,
             ends,
         })?;
     }
@@ -47,7 +32,7 @@ struct Open {
 
 impl Open {
     fn meet(&mut self, spot: &Spot) {
-        if spot.begins {
+        if spot.taken.begins {
             self.count = self.count.saturating_add(1);
         }
         if spot.ends {
@@ -66,65 +51,46 @@ impl Open {
     }
 }
 
-#[derive(Drop)]
-struct Streams<'a> {
-    first: &'a [Taken],
-    second: &'a [Taken],
+impl Taken {
+    // Whether two packets are equal, with the same time or none.
+    fn is_same(&self, other: &Taken) -> bool {
+        self.time == other.time && self.bytes == other.bytes
+    }
 }
 
-impl Streams<'_> {
-    fn packet(&self, spot: &Spot) -> Option<&Taken> {
-        match spot.side {
-            Side::First => self.first.get(spot.index),
-            Side::Second => self.second.get(spot.index),
-        }
-    }
-
-    // Whether the packets of two spots are equal, with the same time or none.
-    fn are_same(&self, one: &Spot, other: &Spot) -> bool {
-        match (self.packet(one), self.packet(other)) {
-            (Some(one), Some(other)) => one.time == other.time && one.bytes == other.bytes,
-            _ => false,
-        }
-    }
-
-    // The first moment, in order of arrival, at which the packets are not those of one stream.
-    fn first_break(&self, spots: &[Spot]) -> Option<u64> {
-        let mut open = Open {
-            count: 0,
-            present: 0,
-            ending: 0,
-        };
-        let mut last: Option<Spot> = None;
-        for spot in spots {
-            if let Some(before) = last {
-                if before.arrival != spot.arrival {
-                    if !open.pass() {
-                        return Some(before.arrival);
-                    }
-                } else if !self.are_same(&before, spot) {
-                    return Some(spot.arrival);
+// The first moment, in order of arrival, at which the packets are not those of one stream.
+fn first_break(spots: &[Spot]) -> Option<u64> {
+    let mut open = Open {
+        count: 0,
+        present: 0,
+        ending: 0,
+    };
+    let mut last: Option<&Taken> = None;
+    for spot in spots {
+        if let Some(before) = last {
+            if before.arrival != spot.taken.arrival {
+                if !open.pass() {
+                    return Some(before.arrival);
                 }
+            } else if !before.is_same(spot.taken) {
+                return Some(spot.taken.arrival);
             }
-            open.meet(spot);
-            last = Some(*spot);
         }
-        match last {
-            Some(before) if !open.pass() => Some(before.arrival),
-            _ => None,
-        }
+        open.meet(spot);
+        last = Some(spot.taken);
     }
+    last.map(|before| before.arrival).filter(|_| !open.pass())
 }
 
 // The first arrival at which the packets that two logs took from a parent do not fit in one stream.
-pub(crate) fn broken_at<'a>(
+pub(crate) fn broken_at(
     heap: Global,
-    first: &'a [Taken],
-    second: &'a [Taken],
+    first: &[Taken],
+    second: &[Taken],
 ) -> Result<Option<u64>, AllocError> {
     let mut spots = Vec::new(heap);
-    note(&mut spots, Side::First, first)?;
-    note(&mut spots, Side::Second, second)?;
-    spots.sort()?;
-    Ok(Streams { first, second }.first_break(spots.as_slice()))
+    note(&mut spots, first)?;
+    note(&mut spots, second)?;
+    spots.sort_by_key(|spot| spot.taken.arrival)?;
+    Ok(first_break(spots.as_slice()))
 }

@@ -4,7 +4,9 @@ use crate::comparison::Differences;
 use crate::log::replay;
 use crate::report::Report;
 use agreement::Added;
+use sitelog::accepted::Accepted;
 use sitelog::hex::Hex;
+use sitelog::stop::Stop;
 use std::alloc::{AllocError, Global};
 use std::test::Fail;
 
@@ -38,11 +40,12 @@ fn hear(heap: Global, log: &mut String, packets: Heard) -> Result<(), AllocError
     Ok(())
 }
 
+fn accepted(heap: Global) -> Result<Accepted, Fail> {
+    Accepted::of(heap, CONFIG.to_vec(heap)?).map_err(Fail::new)
+}
+
 fn account(heap: Global, log: &str) -> Result<Account, Fail> {
-    match replay(heap, CONFIG, log.as_bytes()) {
-        Ok(account) => Ok(account),
-        Err((_, fault)) => Err(Fail::new(fault)),
-    }
+    replay(heap, &accepted(heap)?, "log", log.as_bytes()).map_err(Fail::new)
 }
 
 // What is told of two logs.
@@ -225,12 +228,12 @@ const FAULTS: [(&str, u64, &str); 4] = [
 fn a_fault_ends_a_log(rt: HostRuntime) -> Result<(), Fail> {
     let heap = rt.alloc();
     for (log, line, told) in FAULTS {
-        match replay(heap, CONFIG, log.as_bytes()) {
-            Ok(_) => return Err(Fail::new("no fault")),
-            Err((number, fault)) => {
+        match replay(heap, &accepted(heap)?, "log", log.as_bytes()) {
+            Err(Stop::Line { number, fault, .. }) => {
                 assert_eq!(rt; number, line);
                 assert_eq!(rt; fault.to_string(heap)?.as_str(), told);
             }
+            _ => return Err(Fail::new("no fault of a line")),
         }
     }
     Ok(())
