@@ -24,6 +24,7 @@ pub(crate) enum FileFault {
 impl FileFault {
     // As the fault of a file that has this name.
     pub(crate) fn of(self, name: &String) -> Fault {
+        // Both arms make a fault: `map_or_else` would need the result of `clone` bound with its type first.
         match name.clone() {
             Ok(name) => Fault::File(name, self),
             Err(error) => Fault::Memory(error),
