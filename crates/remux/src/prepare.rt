@@ -23,7 +23,7 @@ use std::fs;
 const MOST_SLOTS: u32 = 4096;
 // How many it has by default.
 const USUAL_SLOTS: u64 = 1000;
-// A parent's line has room for so many entries; more are never used.
+// A parent's line has room for so many entries, as the memory's own limit has it, which is not public; more are never used.
 const LINE: usize = 4096;
 
 // Remultiplexes the files that the options name.

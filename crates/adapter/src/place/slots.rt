@@ -90,6 +90,7 @@ fn copy_at(config: &Config, frame: &Frame, slot: u32) -> Option<u32>
 }
 
 // The packet of a slot, when all was admitted: a PAT copy, the backlog's first, or stuffing.
+// That packets which wait are whole is asked at each step: a memory holds entries of any bytes, and only an adapter keeps to it.
 pub(crate) fn fill(
     config: &Config,
     memory: &mut Memory<Entry>,
@@ -122,6 +123,7 @@ fn front_or_stuffing(memory: &mut Memory<Entry>) -> [u8; 188]
     ensures backlog { backlog_in memory.new ≡ (choose (backlog_in memory.old)).1 }
     ensures rest { OnlyBacklog memory.old memory.new }
 {
+    // The closure of a `map_or_else` would have to say again that what waits is whole.
     let packet = match memory.front() {
         Some(entry) => entry.bytes,
         None => stuffing(),

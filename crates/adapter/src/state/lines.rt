@@ -39,7 +39,7 @@ pub(crate) fn restart(heard: &mut [Option<Times>], since: u64)
     }
 }
 
-// What arrived before a moment is let go from every line.
+// What arrived before a moment is let go from every line. A memory is asked by a line's number, and lends no line.
 pub(crate) fn let_go(memory: &mut Memory<Entry>, since: u64)
     ensures lines { lines_in memory.new ≡ map (from_on since) (lines_in memory.old) }
     ensures rest { OnlyLines memory.old memory.new }
