@@ -95,7 +95,7 @@ pub enum Refusal {
 }
 
 impl Refusal {
-    // The number of the refusal.
+    // The number of the refusal. Written out and not as discriminants: the numbers are those that users are told.
     pub fn number(self) -> u8
         ensures { result ≡ number_of self }
     {

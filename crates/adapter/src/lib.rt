@@ -3,6 +3,7 @@
 
 pub mod answer;
 mod due;
+pub mod limits;
 mod place;
 mod records;
 mod state;

@@ -5,13 +5,11 @@ ghost use Rattle.rules.specs.Calls.{Follows, InRange, records_from};
 ghost use Rattle.waiting.specs.Waiting.{oldest as first_waiting};
 ghost use Rattle.adapter.specs.Queue.{waiting_in};
 
-use crate::times::stamp::LATEST;
+use crate::limits::{LATEST, MOST_SLOTS};
 use config::table::Config;
 use rules::entry::Frame;
 use waiting::{Full, Line};
 
-// No frame has more slots.
-const MOST_SLOTS: u32 = 4096;
 // So many records may wait.
 const PLACES: usize = 8;
 

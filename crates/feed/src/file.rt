@@ -73,8 +73,6 @@ fn may_stand(head: &[u8], at: usize) -> bool
 pub fn stamp_of(piece: &[u8]) -> Option<u32>
     ensures { result ≡ stamp_in piece.now }
 {
-    let [a, b, c, d, ..] = piece else {
-        return None;
-    };
-    Some(u32::from_be_bytes([*a, *b, *c, *d]) % (1 << 30))
+    let stamp = piece.first_chunk::<4>()?;
+    Some(u32::from_be_bytes(*stamp) % (1 << 30))
 }

@@ -2,10 +2,8 @@
 ghost use Rattle.std.specs.Prelude.{◌≡◌};
 ghost use Rattle.feed.specs.Frames.{frame_of};
 
+use adapter::limits::LATEST;
 use rules::entry::Frame;
-
-// No frame starts later; the adapter's own limit is not public.
-const LATEST: u64 = 1 << 60;
 
 #[derive(Clone, Copy)]
 pub struct Plan {

@@ -3,10 +3,10 @@ ghost use Rattle.std.specs.Prelude.{◌≡◌};
 ghost use Rattle.rules.specs.Times.{after};
 ghost use Rattle.feed.specs.Times.{capped, handed_with, unwrapped};
 
+use adapter::limits::TICK_BITS;
+
 // In a plain file one packet in so many is handed with its time.
 const TIMED_EVERY: u64 = 1000;
-// 1,504 bits for each packet, 27,000,000 ticks to a second; the adapter has the like for itself, in 64 bits.
-const TICK_BITS: u128 = 40_608_000_000;
 // Stamps have 30 bits.
 const STAMPS: u64 = 1 << 30;
 
@@ -14,7 +14,7 @@ const STAMPS: u64 = 1 << 30;
 pub(crate) fn delay(rate: u32, count: u64) -> u64
     ensures { result ≡ capped (after rate count) }
 {
-    let ticks = (u128::from(count) * TICK_BITS).checked_div(u128::from(rate));
+    let ticks = (u128::from(count) * u128::from(TICK_BITS)).checked_div(u128::from(rate));
     u64::try_from(ticks.unwrap_or(0)).unwrap_or(u64::MAX)
 }
 

@@ -109,8 +109,10 @@ impl Job {
 
     // The oldest record that waits.
     fn oldest_record(&self) -> Option<Frame> {
-        let mut waiting = self.oldest..self.given;
-        waiting.next().and_then(|n| self.plan.frame(n))
+        if self.oldest >= self.given {
+            return None;
+        }
+        self.plan.frame(self.oldest)
     }
 
     // What a frame leaves of from-times and records, as in the adapter.

@@ -77,8 +77,7 @@ impl fmt::Display for Named {
     }
 }
 
-// Site logs name the same two in the crate `sitelog`; with its carrier of either kind a run would have to ask again how
-// many bytes a packet takes, where here the type of its carrier says it.
+// Site logs name the same two in the crate `sitelog`; for two words a program without logs does not stand on it.
 #[derive(Clone, Copy, PartialEq, Eq, Debug)]
 pub(crate) enum CarrierKind {
     Strip,

@@ -62,7 +62,7 @@ impl<C: Emits> Output<C> {
         })
     }
 
-    // How many bytes a packet takes that is not left out.
+    // How many bytes a packet takes that is not left out: its own, and at most 255 behind it.
     fn piece() -> usize
         ensures least { 188 ≤ result }
         ensures most { result < 444 }

@@ -159,7 +159,7 @@ impl Parent {
         let time = self.clock.next(&self.source);
         let heard = rack.hear(self.number, self.source.packet(), time);
         self.source.pass();
-        // Both arms say what is known then: an `ok()` with a closure would say the second one by nothing.
+        // Both arms stand here, so that what a refusal leaves is in sight.
         self.known = match heard {
             Ok(_) => Known::after(self.known, time, self.rate),
             Err(_) => None,

@@ -8,6 +8,7 @@ use crate::rack::Rack;
 use crate::sink::Sink;
 use crate::source::Source;
 use adapter::Adapter;
+use adapter::limits::MOST_SLOTS;
 use carrier::{Folded, Strip};
 use conffile::read_text;
 use config::answer::answer_line;
@@ -19,8 +20,6 @@ use rules::entry::Entry;
 use std::alloc::{AllocError, Global};
 use std::fs;
 
-// A frame has at most so many slots; the adapter's own limit is not public.
-const MOST_SLOTS: u32 = 4096;
 // How many it has by default.
 const USUAL_SLOTS: u64 = 1000;
 // A parent's line has room for so many entries, as the memory's own limit has it, which is not public; more are never used.

@@ -15,7 +15,7 @@ use rules::entry::{Entry, Frame};
 use waiting::Full;
 
 // The line whose first entry comes next, if one arrives before the limit: the earliest, and at equal times that of the lower parent.
-// A memory's lines are asked by number, and a bound with its line says more than the least of pairs.
+// A memory's lines are asked by number; a `min` over pairs would have to say of each that its line is no lower than the last.
 fn next_line(memory: &Memory<Entry>, limit: u64) -> Option<usize>
     ensures { NextIn limit (lines_in memory.now) result }
 {
@@ -76,7 +76,7 @@ pub(crate) fn admit_before(
     course
 }
 
-// Which PAT copy a slot takes, if it takes one.
+// Which PAT copy a slot takes, if it takes one. (The closure of a `find` would have to ask again that the product fits and that there is a copy to divide by.)
 fn copy_at(config: &Config, frame: &Frame, slot: u32) -> Option<u32>
     ensures { result ≡ copy_of (use_of (setup config.now) frame.now slot) }
 {

@@ -4,14 +4,11 @@ ghost use Rattle.rules.specs.Entries.{Entry};
 ghost use Rattle.rules.specs.Times.{after};
 ghost use Rattle.adapter.specs.Parents.{stamp_of, parent_of, TakenSo, StampedSo};
 
+use crate::limits::{LATEST, TICK_BITS};
 use crate::times::Times;
 
-// No time handed may be later.
-pub(crate) const LATEST: u64 = 1 << 60;
 // So many packets may follow an anchor.
 const MOST: u32 = 100_000;
-// 1,504 bits for each packet, 27,000,000 ticks to a second.
-const TICK_BITS: u64 = 40_608_000_000;
 
 // No arrival time can be given to a packet.
 #[derive(Clone, Copy)]
