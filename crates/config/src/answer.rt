@@ -7,6 +7,10 @@ use crate::check::check;
 use crate::fault::ConfigFault;
 use std::alloc::{AllocError, Global};
 
+// The number that tells a clash.
+const CLASH: u32 = 4;
+
+// The two lines are functions, and the answer has no `Display`: want of memory prints nothing.
 fn accepted(heap: Global, parents: usize, rows: usize) -> Result<String, AllocError>
     ensures { IfOk result (λ s. string_bytes s ≡ ok_line parents rows) }
 {
@@ -31,7 +35,7 @@ pub fn answer_line(heap: Global, text: &[u8]) -> Result<String, AllocError>
             fault.line,
             fault.field,
         ),
-        Err(ConfigFault::Clash { line }) => refused(heap, 4, line, 0),
+        Err(ConfigFault::Clash { line }) => refused(heap, CLASH, line, 0),
         Err(ConfigFault::Memory) => Err(AllocError),
     }
 }
@@ -45,7 +49,7 @@ fn pack(fault: ConfigFault) -> u32
         ConfigFault::Text(fault) => fault.refusal.number() * 10_000_000
             + fault.line * 100
             + fault.field,
-        ConfigFault::Clash { line } => 40_000_000 + line * 100,
+        ConfigFault::Clash { line } => CLASH * 10_000_000 + line * 100,
         ConfigFault::Memory => u32::MAX,
     }
 }

@@ -1,5 +1,5 @@
 // The text reader: line by line, and each line field by field.
-ghost use Rattle.std.specs.Prelude.{◌≡◌, ℕ, ◌+◌, ◌<◌, ◌≤◌, length, drop};
+ghost use Rattle.std.specs.Prelude.{◌≡◌, ◌+◌, ◌≤◌, length, drop};
 ghost use Rattle.config.specs.Text.{lines};
 
 pub mod steps;

@@ -24,7 +24,7 @@ impl<'a> Fields<'a> {
         self.bytes.split(|b| *b == b' ').count()
     }
 
-    // Whether there are so many.
+    // An error unless there are so many.
     pub(crate) fn should_be(self, count: usize) -> Result<(), TextFault>
         ensures { result ≡ unless (count_wrong self.entry.line count self.entry.bytes.now) tt }
     {
