@@ -3,6 +3,7 @@
 
 ghost use Rattle.std.specs.Prelude.{◌≡◌, IfOk, IfSome, take};
 
+use config::check::LONGEST;
 use std::alloc::Global;
 use std::io;
 use std::io::Read;
@@ -11,7 +12,7 @@ use std::io::Read;
 mod tests;
 
 // One byte more than a configuration may have, so that a longer one is seen to be too long and read no further.
-const ENOUGH: u64 = 16_385;
+const ENOUGH: u64 = LONGEST as u64 + 1;
 
 // The text that a source gives, as far as the check of a configuration looks at one.
 pub fn read_text<R: Read>(heap: Global, source: R) -> io::Result<Vec<u8>>

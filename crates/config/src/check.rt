@@ -8,6 +8,9 @@ use crate::table::Config;
 use crate::tables::{read_head, read_parents, read_rows};
 use std::alloc::Global;
 
+// How many bytes the longest configuration text has.
+pub const LONGEST: usize = 16_384;
+
 // The configuration that a text writes, or why it is refused.
 pub fn check(heap: Global, text: &[u8]) -> Result<Config, ConfigFault>
     ensures { Answers text.now result }

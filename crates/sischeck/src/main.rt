@@ -6,6 +6,7 @@
 use anyhow::anyhow;
 use conffile::read_text;
 use config::answer::answer_line;
+use config::check::check;
 use std::process::ExitCode;
 use std::{env, fs};
 
@@ -21,7 +22,7 @@ fn run(rt: &HostRuntime) -> anyhow::Result<bool> {
     };
     let line = answer_line(heap, text.as_slice())?;
     rt.println(line.as_str())?;
-    Ok(line.as_str().starts_with("ok"))
+    Ok(check(heap, text.as_slice()).is_ok())
 }
 
 fn main(rt: HostRuntime) -> anyhow::Result<ExitCode> {

@@ -2,6 +2,7 @@ ghost use Rattle.std.specs.Prelude.{◌≡◌, None, Some, IfOk, IfErr};
 ghost use Rattle.config.specs.Layout.{too_long};
 ghost use Rattle.config.specs.Reading.{Next};
 
+use crate::check::LONGEST;
 use crate::cuts::{after, find};
 use crate::fault::{TextFault, TextRefusal};
 use crate::line::Line;
@@ -13,7 +14,7 @@ impl<'a> Reader<'a> {
         ensures ok { IfOk result (λ r. (too_long text.now ≡ None) × (r.text.now ≡ text.now) × (r.line ≡ 0)) }
         ensures err { IfErr result (λ e. too_long text.now ≡ Some e) }
     {
-        if text.len() > 16_384 {
+        if text.len() > LONGEST {
             return Err(TextRefusal::Names.at(0, 0));
         }
         Ok(Reader {
