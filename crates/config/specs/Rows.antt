@@ -48,6 +48,7 @@ RowInRange r =
     × Between 32 8_190 r.out
     × Between (least_service r.kind) (most_service r.kind) r.service
 
+-- each row lies in its ranges, by `ContainsAt`: the proofs here and in `psi` pass a row on by `HoldsAt`
 abbrev pub RowsInRange : List Row → Type 0
 RowsInRange rows = (r : Row) → Has rows r → RowInRange r
 

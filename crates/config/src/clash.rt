@@ -25,7 +25,7 @@ pub(crate) fn find_clash(rows: &[Row], listed: usize) -> Option<usize>
     ensures value { result ≡ first_clash listed rows.now }
     ensures within { IfSome result (λ i. i < length rows.now) }
 {
-    // a `position` over `enumerate` would be no plainer: the test reads the rows before row i too
+    // a loop: with `position` over `enumerate` it was not proved that the row found is `first_clash`
     for (i, row) in rows.iter().enumerate() {
         if usize::from(row.parent) >= listed || shares_any(row, &rows[..i]) {
             return Some(i);

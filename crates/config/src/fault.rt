@@ -41,6 +41,7 @@ impl TextRefusal {
 pub struct TextFault {
     pub refusal: TextRefusal,
     pub line: u32,
+    // a number and no `Option`: the printed line and the number for C have the 0 too
     pub field: u32,
 }
 

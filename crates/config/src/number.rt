@@ -35,7 +35,7 @@ pub(crate) fn number_within(field: &[u8], low: u64, high: u64) -> Result<u64, Te
     ensures range { IfOk result (Between low high) }
 {
     let n = number(field).ok_or(TextRefusal::Form)?;
-    if low <= n && n <= high {
+    if (low..=high).contains(&n) {
         Ok(n)
     } else {
         Err(TextRefusal::Range)

@@ -38,6 +38,7 @@ pub struct Row {
     pub out: u16,
     pub kind: Kind,
     // program_number of the service whose PMT this is; 0 in a `pass` row
+    // a number and no `Option`: the text writes this 0, and the definitions have it
     pub service: u16,
 }
 

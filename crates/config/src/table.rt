@@ -12,6 +12,7 @@ pub struct Config {
     settings: Settings,
     rates: Vec<u32>,
     rows: Vec<Row>,
+    // of the four numbers and not of `Settings`: the rules say it of a `Setup`, which holds the numbers
     ghost in_range: { SettingsInRange settings.ticks settings.backlog settings.copies settings.tsid },
     ghost parents: { RatesInRange rates.items },
     ghost counted: { RowsCounted rows.items },

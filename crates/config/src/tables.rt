@@ -39,6 +39,7 @@ pub(crate) fn read_rows(heap: Global, reader: &mut Reader<'_>) -> Result<Vec<Row
     ensures { ReadsInMemory (text_lines reader.old) reader.new (length (text_lines reader.old)) (λ rows. RowsRead (text_lines reader.old) rows.items) result }
 {
     let mut rows = Vec::new(heap);
+    // kept beside the rows: `filter().count()` would count all of them again at each line
     let mut pmts = 0;
     while let Some(row) = reader.next_line().row(rows.len(), pmts)? {
         if row.kind == Kind::Pmt {

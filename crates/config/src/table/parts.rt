@@ -7,6 +7,7 @@ use crate::row::{Row, Settings};
 use crate::table::Config;
 
 impl Config {
+    // What is asked of the settings is asked of the four numbers: the rules say it of a `Setup`, which holds the numbers.
     pub(crate) fn of(settings: Settings, rates: Vec<u32>, rows: Vec<Row>) -> Config
         requires settings_in_range { SettingsInRange settings.ticks settings.backlog settings.copies settings.tsid }
         requires rates_in_range { RatesInRange rates.items }
