@@ -1,11 +1,13 @@
 // Numbers of a configuration text.
-ghost use Rattle.std.specs.Prelude.{◌≡◌, IfOk};
+ghost use Rattle.std.specs.Prelude.{◌≡◌, false, IfOk};
+ghost use Rattle.std.specs.Range.{range_inclusive_start, range_inclusive_end, range_inclusive_exhausted};
 ghost use Rattle.config.specs.Layout.{within};
 ghost use Rattle.config.specs.Reading.{unless};
 ghost use Rattle.config.specs.Rows.{Between};
 ghost use Rattle.config.specs.Text.{number as number_of, written};
 
 use crate::fault::TextRefusal;
+use std::ops::RangeInclusive;
 
 // The number that a field writes: 1 to 10 decimal digits and no leading zero.
 pub(crate) fn number(field: &[u8]) -> Option<u64>
@@ -28,14 +30,15 @@ pub(crate) fn number(field: &[u8]) -> Option<u64>
     Some(n)
 }
 
-// A number from `low` to `high`.
+// A number of a range.
 #[tactic(auto, using(crate::proofs::Numbers::is_written), unfolding(crate::specs::Layout::within))]
-pub(crate) fn number_within(field: &[u8], low: u64, high: u64) -> Result<u64, TextRefusal>
-    ensures value { result ≡ unless (within low high field.now) (written field.now) }
-    ensures range { IfOk result (Between low high) }
+pub(crate) fn number_within(field: &[u8], range: RangeInclusive<u64>) -> Result<u64, TextRefusal>
+    requires { range_inclusive_exhausted range ≡ false }
+    ensures value { result ≡ unless (within (range_inclusive_start range) (range_inclusive_end range) field.now) (written field.now) }
+    ensures range { IfOk result (Between (range_inclusive_start range) (range_inclusive_end range)) }
 {
     let n = number(field).ok_or(TextRefusal::Form)?;
-    if (low..=high).contains(&n) {
+    if range.contains(&n) {
         Ok(n)
     } else {
         Err(TextRefusal::Range)

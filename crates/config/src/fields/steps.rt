@@ -1,4 +1,5 @@
-ghost use Rattle.std.specs.Prelude.{◌≡◌, ◌-◌, length, IfOk};
+ghost use Rattle.std.specs.Prelude.{◌≡◌, ◌-◌, false, length, IfOk};
+ghost use Rattle.std.specs.Range.{range_inclusive_start, range_inclusive_end, range_inclusive_exhausted};
 ghost use Rattle.config.specs.Layout.{within, kind_word, kind as kind_of, field_at};
 ghost use Rattle.config.specs.Reading.{count_wrong, field_wrong, unless};
 ghost use Rattle.config.specs.Rows.{Between};
@@ -8,6 +9,7 @@ use crate::fault::{TextFault, TextRefusal};
 use crate::fields::Fields;
 use crate::number::number_within;
 use crate::row::Kind;
+use std::ops::RangeInclusive;
 
 impl<'a> Fields<'a> {
     // The fields of line `line`.
@@ -42,12 +44,13 @@ impl<'a> Fields<'a> {
         self.bytes.split(|b| *b == b' ').nth(before).unwrap_or(&[])
     }
 
-    // Field `field` as a number from `low` to `high`.
-    pub(crate) fn number(self, field: u32, low: u64, high: u64) -> Result<u64, TextFault>
-        ensures value { result ≡ unless (field_wrong self.entry.line field self.entry.bytes.now (within low high)) (written (field_at self.entry.bytes.now (field - 1))) }
-        ensures range { IfOk result (Between low high) }
+    // Field `field` as a number of a range.
+    pub(crate) fn number(self, field: u32, range: RangeInclusive<u64>) -> Result<u64, TextFault>
+        requires { range_inclusive_exhausted range ≡ false }
+        ensures value { result ≡ unless (field_wrong self.entry.line field self.entry.bytes.now (within (range_inclusive_start range) (range_inclusive_end range))) (written (field_at self.entry.bytes.now (field - 1))) }
+        ensures range { IfOk result (Between (range_inclusive_start range) (range_inclusive_end range)) }
     {
-        number_within(self.field(field), low, high).map_err(|refusal| refusal.at(self.line, field))
+        number_within(self.field(field), range).map_err(|refusal| refusal.at(self.line, field))
     }
 
     // Field `field` as a kind.
