@@ -20,6 +20,7 @@ pub(crate) fn number(field: &[u8]) -> Option<u64>
     if digits > 1 && field[0] == b'0' {
         return None;
     }
+    // a loop: `parse` lets a `+` stand first, and a fold's closure would need a clause that bounds `n`
     let mut n: u64 = 0;
     for b in field {
         if !b.is_ascii_digit() {

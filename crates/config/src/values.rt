@@ -45,7 +45,7 @@ impl Fields<'_> {
         let pid = self.number(2, 0..=8_190)? as u16;
         let out = self.number(3, 32..=8_190)? as u16;
         let kind = self.kind(4)?;
-                let service = self.number(5, services(kind))? as u16;
+        let service = self.number(5, services(kind))? as u16;
         Ok(Row {
             parent,
             pid,
