@@ -1,7 +1,7 @@
 -- The entries of a PAT row by row, its packet, and what a reader finds in it.
-use Rattle.std.proofs.Common.{◌≡◌, ℕ, suc, ◌+◌, ◌-◌, ◌*◌, ◌/◌, ◌%◌, ◌<◌, ◌≤◌, cond, List, [], ◌∷◌, ◌++◌, length, get_or, take, drop, replicate, refl, ap, ◌∙◌, append_assoc, suc-le-suc, zero-le, zero-add, arith, length-append}
+use Rattle.std.proofs.Common.{◌≡◌, ℕ, suc, ◌+◌, ◌-◌, ◌*◌, ◌/◌, ◌%◌, ◌<◌, ◌≤◌, cond, List, [], ◌∷◌, ◌++◌, length, take, replicate, refl, ap, ◌∙◌, append_assoc, suc-le-suc, zero-le, arith, length-append}
 use Rattle.std.specs.List.{count_by}
-use Rattle.std.proofs.lemmas.List.{at_drop_more, take_at}
+use Rattle.std.proofs.lemmas.List.{take_at}
 use Rattle.std.proofs.lemmas.List.Recursion.{is_sum_by}
 use Rattle.config.specs.declared.row.Row.{Row}
 use Rattle.config.specs.declared.row.Kind.{Kind}
@@ -17,19 +17,6 @@ use Rattle.psi.specs.Pat.{program_entry, programs, pat_section, pat_packet, pair
 -- the `pmt` rows, as a count of the rows that pass a test
 pub pmts_counted : (rows : List Row) → pmts rows ≡ count_by (λ row. is_pmt row.kind) rows
 pmts_counted rows = is_sum_by pmts (λ row. cond (is_pmt row.kind) 1 0) refl (λ _ _. refl) rows
-
-module _ (rows : List Row) (i : ℕ) (d : Row) (h : i < length rows) where
-  pub more_pmt : (get_or rows i d).kind ≡ Pmt → pmts (drop i rows) ≡ 1 + pmts (drop (i + 1) rows)
-  more_pmt is = at_drop_more pmts rows i d h ∙ ap (λ k. cond (is_pmt k) 1 0 + pmts (drop (i + 1) rows)) is
-
-  pub more_pass : (get_or rows i d).kind ≡ Pass → pmts (drop i rows) ≡ pmts (drop (i + 1) rows)
-  more_pass is = at_drop_more pmts rows i d h ∙ ap (λ k. cond (is_pmt k) 1 0 + pmts (drop (i + 1) rows)) is ∙ zero-add (pmts (drop (i + 1) rows))
-
-  pub more_program : (get_or rows i d).kind ≡ Pmt → programs (drop i rows) ≡ program_entry (get_or rows i d) ++ programs (drop (i + 1) rows)
-  more_program is = at_drop_more programs rows i d h ∙ ap (λ k. cond (is_pmt k) (program_entry (get_or rows i d)) [] ++ programs (drop (i + 1) rows)) is
-
-  pub no_program : (get_or rows i d).kind ≡ Pass → programs (drop i rows) ≡ programs (drop (i + 1) rows)
-  no_program is = at_drop_more programs rows i d h ∙ ap (λ k. cond (is_pmt k) (program_entry (get_or rows i d)) [] ++ programs (drop (i + 1) rows)) is
 
 -- what is written of a PAT packet, once its section is closed
 pub closed_pat : (b3 high low : ℕ) (ps : Bytes) → closed (0x47 ∷ 0x40 ∷ 0x00 ∷ b3 ∷ 0x00 ∷ 0x00 ∷ 0xB0 ∷ 0x00 ∷ high ∷ low ∷ 0xC1 ∷ 0x00 ∷ 0x00 ∷ ps)

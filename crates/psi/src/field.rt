@@ -1,4 +1,5 @@
 // Numbers of more than 8 bits below flags, in two bytes: PIDs of 13 bits and lengths of 12.
+// `FLAG` is a power of two: what the lowest flag bit, the one just above the number, counts in the first byte.
 ghost use Rattle.std.specs.Prelude.{◌≡◌, ◌%◌, ◌/◌, ◌<◌, [], ◌∷◌};
 ghost use Rattle.psi.specs.Fields.{number_in, flags_byte};
 

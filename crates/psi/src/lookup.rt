@@ -1,4 +1,5 @@
 // The map row that a parent's packet falls under.
+// `rows`, `parent` and `pid` are what is looked up, and stay three parameters, as the definition `find_row` has them.
 ghost use Rattle.std.specs.Prelude.{◌≡◌, position};
 ghost use Rattle.config.specs.Setup.{setup};
 ghost use Rattle.psi.specs.Lookup.{fits, find_row, row_of, out_of, Alone};

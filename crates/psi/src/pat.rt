@@ -55,9 +55,8 @@ fn put_programs(place: &mut Place, rows: &[Row])
     ensures len { place.new.len ≡ place.old.len + 4 * pmts rows.now }
 {
     for row in rows {
-        match row.kind {
-            Kind::Pmt => place.put_all(&entry_of(row)),
-            Kind::Pass => {}
+        if row.kind == Kind::Pmt {
+            place.put_all(&entry_of(row));
         }
     }
 }

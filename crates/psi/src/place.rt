@@ -1,5 +1,5 @@
 // A place for one packet: it is written from the front on, and holds 0xFF behind what is written.
-// An array with a length, since nothing may allocate here, and since the array is the packet once it is written.
+// An array with a length, since the array is the packet once it is written.
 ghost use Rattle.std.specs.Prelude.{◌≡◌, ◌-◌, ◌≤◌, length, drop, replicate};
 
 use crate::packet::LENGTH;

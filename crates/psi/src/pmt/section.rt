@@ -61,7 +61,7 @@ pub(crate) fn put_section(place: &mut Place, rows: &[Row], row: &Row, section: &
     ensures written { SectionWritten rows.now row.now (written place.old) section.now (written place.new) result }
     ensures len { (place.old.len + 12 ≤ place.new.len) × (place.new.len ≤ place.old.len + length section.now) }
 {
-    // By their places, since a pattern of all twelve bytes would be longer.
+    // The bytes are read by their places, since a pattern of all twelve would be longer.
     let pcr = number_in::<ABOVE_PID>(section[8], section[9]);
     let pcr_out = out_of(rows, row.parent, pcr).unwrap_or(NO_PCR);
     let [pcr_high, pcr_low] = with_number::<ABOVE_PID>(section[8], pcr_out);

@@ -44,10 +44,7 @@ fn put_stream(place: &mut Place, stream: &[u8], pid: u16)
     ensures written { written place.new ≡ written place.old ++ with_pid pid stream.now }
     ensures len { place.new.len ≡ place.old.len + length stream.now }
 {
-    let [kind, flags, _, rest @ ..] = stream else {
-        unreachable!()
-    };
-    let [high, low] = with_number::<ABOVE_PID>(*flags, pid);
-    place.put_all(&[*kind, high, low]);
-    place.put_all(rest);
+    let [high, low] = with_number::<ABOVE_PID>(stream[1], pid);
+    place.put_all(&[stream[0], high, low]);
+    place.put_all(&stream[3..]);
 }
