@@ -22,7 +22,7 @@ use config::table::Config;
 use psi::crc::crc32;
 use psi::delivery::{BadPacket, Delivered, deliver, deliver_by};
 use psi::lookup::{find_row, row_of};
-use psi::packet::{Head, is_stuffing, stuffing, with_pid};
+use psi::packet::{Head, LENGTH, is_stuffing, stuffing, with_pid};
 use psi::pat::{pat, pat_copy};
 use std::io;
 
@@ -55,7 +55,9 @@ fn answer(rt: &HostRuntime, rows: &[Row], word: &str, rest: &str) -> io::Result<
         "find" => show_row(rt, rows, rest),
         "pat" => show_pat(rt, rows, rest),
         "deliver" => show_delivery(rt, rows, rest),
-        "copy" | "number" | "hear" => configured(rt, word, rest),
+        "copy" => configured(rt, rest, |config, line| show_copy(rt, config, line)),
+        "number" => configured(rt, rest, |config, line| show_number(rt, config, line)),
+        "hear" => configured(rt, rest, |config, line| show_heard(rt, config, line)),
         _ => println!(rt; "unknown"),
     }
 }
@@ -65,6 +67,14 @@ fn show_packet(rt: &HostRuntime, packet: &[u8]) -> io::Result<()> {
         print!(rt; "{byte:02x}")?;
     }
     println!(rt; "")
+}
+
+// A packet, or a word where none was made.
+fn show_made(rt: &HostRuntime, made: Option<[u8; LENGTH]>, none: &str) -> io::Result<()> {
+    match made {
+        Some(packet) => show_packet(rt, &packet),
+        None => println!(rt; "{none}"),
+    }
 }
 
 fn show_crc(rt: &HostRuntime, hex: &str) -> io::Result<()> {
@@ -99,26 +109,25 @@ fn show_stuffing(rt: &HostRuntime, hex: &str) -> io::Result<()> {
 fn show_pid(rt: &HostRuntime, line: &str) -> io::Result<()> {
     let (pid, hex) = cut(line);
     let bytes = bytes_in(rt.alloc(), hex)?;
-    match with_pid(bytes.as_slice(), number_in(pid)) {
-        Some(packet) => show_packet(rt, &packet),
-        None => println!(rt; "bad"),
-    }
+    show_made(rt, with_pid(bytes.as_slice(), number_in(pid)), "bad")
 }
 
 fn show_row(rt: &HostRuntime, rows: &[Row], line: &str) -> io::Result<()> {
     let (parent, pid) = cut(line);
-    match find_row(rows, number_in(parent), number_in(pid)) {
-        Some((number, _)) => println!(rt; "{number}"),
+    let found = find_row(rows, number_in(parent), number_in(pid));
+    show_found(rt, found.map(|(number, _)| number))
+}
+
+fn show_found(rt: &HostRuntime, number: Option<usize>) -> io::Result<()> {
+    match number {
+        Some(number) => println!(rt; "{number}"),
         None => println!(rt; "none"),
     }
 }
 
 fn show_pat(rt: &HostRuntime, rows: &[Row], line: &str) -> io::Result<()> {
     let (counter, tsid) = cut(line);
-    match pat(number_in(counter), number_in(tsid), rows) {
-        Some(packet) => show_packet(rt, &packet),
-        None => println!(rt; "none"),
-    }
+    show_made(rt, pat(number_in(counter), number_in(tsid), rows), "none")
 }
 
 fn show_delivery(rt: &HostRuntime, rows: &[Row], line: &str) -> io::Result<()> {
@@ -139,27 +148,34 @@ fn show_delivered(rt: &HostRuntime, delivered: Result<Delivered, BadPacket>) -> 
     }
 }
 
-// The calls that take a checked configuration.
-fn configured(rt: &HostRuntime, word: &str, line: &str) -> io::Result<()> {
+// A call that takes a checked configuration, and the rest of its line.
+fn configured<F: FnOnce(&Config, &str) -> io::Result<()>>(
+    rt: &HostRuntime,
+    line: &str,
+    show: F,
+) -> io::Result<()>
+    requires { F.IsAlwaysCallable show }
+{
     let (hex, rest) = cut(line);
     let text = bytes_in(rt.alloc(), hex)?;
     match check(rt.alloc(), text.as_slice()) {
-        Ok(config) => by_config(rt, &config, word, rest),
+        Ok(config) => show(&config, rest),
         Err(_) => println!(rt; "refused"),
     }
 }
 
-fn by_config(rt: &HostRuntime, config: &Config, word: &str, line: &str) -> io::Result<()> {
-    let (first, second) = cut(line);
-    match word {
-        "copy" => show_packet(rt, &pat_copy(config, number_in(first), number_in(second))),
-        "number" => match row_of(config, number_in(first), number_in(second)) {
-            Some(number) => println!(rt; "{number}"),
-            None => println!(rt; "none"),
-        },
-        _ => {
-            let bytes = bytes_in(rt.alloc(), second)?;
-            show_delivered(rt, deliver(config, number_in(first), bytes.as_slice()))
-        }
-    }
+fn show_copy(rt: &HostRuntime, config: &Config, line: &str) -> io::Result<()> {
+    let (frame, copy) = cut(line);
+    show_packet(rt, &pat_copy(config, number_in(frame), number_in(copy)))
+}
+
+fn show_number(rt: &HostRuntime, config: &Config, line: &str) -> io::Result<()> {
+    let (parent, pid) = cut(line);
+    show_found(rt, row_of(config, number_in(parent), number_in(pid)))
+}
+
+fn show_heard(rt: &HostRuntime, config: &Config, line: &str) -> io::Result<()> {
+    let (parent, hex) = cut(line);
+    let bytes = bytes_in(rt.alloc(), hex)?;
+    show_delivered(rt, deliver(config, number_in(parent), bytes.as_slice()))
 }

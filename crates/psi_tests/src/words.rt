@@ -35,7 +35,7 @@ pub(crate) fn row_in(line: &str) -> Row {
         parent: number_in(parent),
         pid: number_in(pid),
         out: number_in(out),
-        kind: if kind == "pmt" { Kind::Pmt } else { Kind::Pass },
+        kind: Kind::try_from(kind.as_bytes()).unwrap_or(Kind::Pass),
         service: number_in(service),
     }
 }
