@@ -24,6 +24,7 @@ pub(crate) fn out_of(rows: &[Row], parent: u8, pid: u16) -> Option<u16>
 }
 
 // The first row for a parent's packets of a PID, with its number.
+#[tactic(auto, using(crate::proofs::Lookups::unplaced, crate::proofs::Lookups::placed_at))]
 pub fn find_row(rows: &[Row], parent: u8, pid: u16) -> Option<(usize, Row)>
     ensures { result ≡ find_row rows.now parent pid }
 {

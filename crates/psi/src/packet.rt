@@ -85,6 +85,7 @@ pub fn is_stuffing(packet: &[u8]) -> bool
 }
 
 // A good packet with another PID (of which the low 13 bits are taken), or `None` for one that is not good.
+#[tactic(auto, using(crate::proofs::Packets::headed, crate::proofs::Packets::good_parts, crate::proofs::Packets::with_pid_framed))]
 pub fn with_pid(packet: &[u8], pid: u16) -> Option<[u8; LENGTH]>
     ensures value { result ≡ (if good_packet packet.now then Some (with_pid pid packet.now) else None) }
     ensures framed { IfSome result Framed }

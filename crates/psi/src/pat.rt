@@ -42,6 +42,7 @@ pub fn pat(counter: u8, tsid: u16, rows: &[Row]) -> Option<[u8; LENGTH]>
 }
 
 // How many of the rows are `pmt` rows.
+#[tactic(auto, using(crate::proofs::Pats::pmts_counted))]
 fn services_in(rows: &[Row]) -> usize
     ensures { result ≡ pmts rows.now }
 {

@@ -43,6 +43,7 @@ impl Place {
     }
 
     // Sets the section_length of the section from byte 5 on, for what is written and a CRC.
+    #[tactic(auto, using(crate::proofs::Placing::length_written))]
     fn set_length(&mut self)
         requires { (8 ≤ self.old.len) × (self.old.len ≤ 184) }
         ensures written { written self.new ≡ take 5 (written self.old) ++ with_length (drop 5 (written self.old)) }
