@@ -49,6 +49,7 @@ pub fn crc32(bytes: &[u8]) -> u32
 }
 
 // The register after one more byte.
+#[tactic(auto, using(crate::proofs::Crcs::by_table))]
 fn step(register: u32, byte: u8) -> u32
     ensures { result ≡ crc_byte register byte }
 {

@@ -35,6 +35,7 @@ pub fn deliver(config: &Config, parent: u8, packet: &[u8]) -> Result<Delivered, 
 }
 
 // The same by the rows of a map.
+#[tactic(auto, using(crate::proofs::Packets::headed, crate::proofs::Packets::good_parts))]
 pub fn deliver_by(rows: &[Row], parent: u8, packet: &[u8]) -> Result<Delivered, BadPacket>
     ensures value { answer result ≡ (if good_packet packet.now then Some (deliver_by rows.now parent packet.now) else None) }
     ensures leaves { IfSome (answer result) (Leaves rows.now) }

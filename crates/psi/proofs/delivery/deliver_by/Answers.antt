@@ -5,7 +5,7 @@ use Rattle.psi.specs.Delivery.{unmapped, by_patch, by_kind, by_row, deliver_by}
 use Rattle.psi.specs.Lookup.{find_row}
 use Rattle.psi.specs.Packet.{good_packet}
 use Rattle.psi.proofs.Deliveries.{told}
-use Rattle.psi.proofs.Packets.{Headed, headed, good_parts}
+use Rattle.psi.proofs.Packets.{Headed, headed}
 use Rattle.psi.proofs.delivery.deliver_by.Goals as goal
 use Rattle.psi.proofs.delivery.deliver_by.Goals.{After-find_row, in-Pass, in-Pmt}
 
@@ -23,9 +23,6 @@ made c found is =
 pub returns-in_default : goal.returns-in_default
 returns-in_default c =
     told c.args.rows.now c.args.parent c.args.packet.now (Some unmapped) (made (goal.at.returns-in_default c).After-find_row None c.in_default.is)
-
-pub changed-requires : goal.changed-requires
-changed-requires c = (good_parts _ (known (goal.at.changed-requires c).After-find_row).good).long
 
 pub returns-in-Some-left : goal.returns-in-Some-left
 returns-in-Some-left c =

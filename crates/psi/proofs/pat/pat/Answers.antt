@@ -1,16 +1,11 @@
-use Rattle.std.proofs.Common.{◌+◌, ◌%◌, ◌<◌, ◌≤◌, [], ◌∷◌, ◌++◌, get_or, Some, None, sym, ap, ◌∙◌, arith}
-use Rattle.std.proofs.lemmas.Bool.{cond-true, cond-false, le-leb, lt-leb}
+use Rattle.std.proofs.Common.{◌+◌, ◌%◌, ◌≤◌, [], ◌∷◌, ◌++◌, get_or, Some, None, sym, ap, ◌∙◌, arith}
+use Rattle.std.proofs.lemmas.Bool.{cond-true, le-leb}
 use Rattle.config.specs.Rows.{pmts}
 use Rattle.psi.specs.Packet.{Bytes, filled}
 use Rattle.psi.specs.Sections.{closed}
 use Rattle.psi.specs.Pat.{programs, pat_packet}
 use Rattle.psi.proofs.Pats.{closed_pat}
 use Rattle.psi.proofs.pat.pat.Goals as goal
-
-pub returns-then-services_in-gt-MOST : goal.returns-then-services_in-gt-MOST
-returns-then-services_in-gt-MOST c =
-    let many : 42 < pmts c.args.rows.now = omega (arith, c.services_in.ensures) in
-    sym (cond-false _ _ None (lt-leb _ 42 many))
 
 pub returns : goal.returns
 unfolding pat_packet

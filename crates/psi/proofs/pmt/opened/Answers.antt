@@ -1,25 +1,14 @@
-use Rattle.std.proofs.Common.{is_some, sym, ap, ◌∙◌, arith}
+use Rattle.std.proofs.Common.{sym, ap, ◌∙◌, arith}
 use Rattle.std.proofs.lemmas.List.{take_rest}
-use Rattle.std.proofs.lemmas.Bool.{both_ways, ltb-true}
+use Rattle.std.proofs.lemmas.Bool.{both_ways}
 use Rattle.psi.specs.Packet.{payload_only}
-use Rattle.psi.proofs.Packets.{Headed, headed, head_bad, good_parts}
-use Rattle.psi.proofs.Shapes.{Opens, opens_from, opens_not, answered_none, is_payload, not_payload}
+use Rattle.psi.proofs.Packets.{Headed, headed, good_parts}
+use Rattle.psi.proofs.Shapes.{Opens, opens_from, opens_not, is_payload, not_payload}
 use Rattle.psi.proofs.pmt.opened.Goals as goal
-use Rattle.psi.proofs.pmt.opened.Goals.{In_ok-head, in_default-via-then-packet-lt5, in_default-via-else-packet-lt5+in_default-1, then-not-head-via-then-not-head, then-not-head-via-else-not-head+then-head-ne0, then-not-head-via-else-not-head+else-head-ne0+then-ne}
+use Rattle.psi.proofs.pmt.opened.Goals.{In_ok-head, then-not-head-via-then-not-head, then-not-head-via-else-not-head+then-head-ne0, then-not-head-via-else-not-head+else-head-ne0+then-ne}
 
 known : (c : In_ok-head) → Headed c.args.packet.now c.in_ok-head.head
 known c = headed c.args.packet.now c.in_ok-head.head c.in_ok-head.ensures
-
-pub returns-in_err-head : goal.returns-in_err-head
-returns-in_err-head c =
-    let x = c.args.packet.now in
-    let bad = head_bad x (ap is_some (sym c.in_err-head.ensures)) in
-    answered_none _ _ _ c.from_residual.ensures (opens_not x (λ o. both_ways _ bad o.good))
-
-pub returns-in_default : goal.returns-in_default
-returns-in_default c =
-    opens_not c.args.packet.now
-    (λ o. let g = good_parts _ o.good in elim c.in_default.branch [ in_default-via-then-packet-lt5 w ↦ omega (arith, ltb-true) | in_default-via-else-packet-lt5+in_default-1 w ↦ omega arith ])
 
 pub returns-then-not-head : goal.returns-then-not-head
 returns-then-not-head c =

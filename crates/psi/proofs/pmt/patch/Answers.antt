@@ -1,25 +1,12 @@
-use Rattle.std.proofs.Common.{◌≡◌, ◌%◌, true, false, ◌&&◌, [], ◌∷◌, ◌++◌, get_or, drop, Some, sym, ap, ◌∙◌, subst}
+use Rattle.std.proofs.Common.{◌≡◌, ◌%◌, true, ◌&&◌, [], ◌∷◌, ◌++◌, get_or, drop, Some, sym, ap, ◌∙◌, subst}
 use Rattle.psi.specs.Packet.{Bytes, byte, pid_high, filled}
 use Rattle.psi.specs.Places.{written}
 use Rattle.psi.specs.Pmt.{fixed_part, right_crc, before_crc, section_body, section_with, patch_section, SectionWritten}
 use Rattle.psi.specs.Sections.{closed}
 use Rattle.psi.proofs.Again.{told}
-use Rattle.psi.proofs.Shapes.{unopened, unsound, unfilled, patched_some, closed_pmt, opens_parts, told_none, told_some}
+use Rattle.psi.proofs.Shapes.{patched_some, closed_pmt, opens_parts, told_some}
 use Rattle.psi.proofs.pmt.patch.Goals as goal
 use Rattle.psi.proofs.pmt.patch.Goals.{In_ok-section, After-put_section}
-
-pub returns-in_err-opened : goal.returns-in_err-opened
-returns-in_err-opened c =
-    told c.args.rows.now c.args.row.now c.args.packet.now c.from_residual.result (λ i. (c.type_inv.packet i).fits)
-    (c.from_residual.ensures ∙ sym (unopened c.args.rows.now c.args.row.now c.args.packet.now c.in_err-opened.ensures))
-
-pub returns-in_err-section : goal.returns-in_err-section
-returns-in_err-section c =
-    let start = c.in_ok-opened.ensures in
-    told c.args.rows.now c.args.row.now c.args.packet.now c.from_residual-in_err-section.result (λ i. (c.type_inv.packet i).fits)
-    (c.from_residual-in_err-section.ensures
-    ∙ sym (unsound c.args.rows.now c.args.row.now c.args.packet.now start.0
-    (subst (λ (bs : Bytes). (fixed_part bs && right_crc bs) ≡ false) start.1 c.in_err-section.ensures)))
 
 sound : (c : In_ok-section) → (fixed_part (drop 5 c.args.packet.now) && right_crc (drop 5 c.args.packet.now)) ≡ true
 sound c = subst (λ (bs : Bytes). (fixed_part bs && right_crc bs) ≡ true) c.in_ok-opened.ensures.1 c.in_ok-section.ensures.0
@@ -30,14 +17,6 @@ wrote : (c : After-put_section)
 wrote c =
     subst (λ (s : Bytes). SectionWritten c.args.rows.now c.args.row.now (written c.put_all.new.self) s (written c.put_section.new.place) c.put_section.result)
     (c.in_ok-section.ensures.1 ∙ ap before_crc c.in_ok-opened.ensures.1) c.put_section.ensures.written
-
-pub returns-in_err-put_section : goal.returns-in_err-put_section
-returns-in_err-put_section c =
-    let d = (goal.at.returns-in_err-put_section c).After-put_section in
-    told c.args.rows.now c.args.row.now c.args.packet.now c.from_residual-in_err-put_section.result (λ i. (c.type_inv.packet i).fits)
-    (c.from_residual-in_err-put_section.ensures
-    ∙ sym (unfilled c.args.rows.now c.args.row.now c.args.packet.now c.in_ok-opened.ensures.0 (sound (goal.at.returns-in_err-put_section c).In_ok-section)
-    (told_none _ c.put_section.result _ (wrote d) c.in_err-put_section.was)))
 
 pub returns : goal.returns
 returns c =
