@@ -165,16 +165,7 @@ pub answered_where : {X : Type 0} (r : Option X) (b : Bool) (v : X) (P : Type 0)
 answered_where r true v P Q e f t = subst (λ o. MatchOption o P Q) (sym e) (t refl)
 answered_where r false v P Q e f t = subst (λ o. MatchOption o P Q) (sym e) (f refl)
 
--- what is answered without a value
-pub answered_none : {X : Type 0} (r : Option X) (P : Type 0) (Q : X → Type 0) → r ≡ None → P → MatchOption r P Q
-answered_none None P Q e p = p
-answered_none (Some x) P Q e p = let z : ◌≡◌ {A = ℕ} 0 1 = cc in absurd (omega arith)
-
--- an answer tells which of two cases a clause speaks of
-pub told_none : {X : Type 0} (o : Option X) (answer : Option (Unit {0})) (Q : X → Type 0) → MatchOption o (answer ≡ None) (λ x. (answer ≡ Some tt) × Q x) → answer ≡ None → o ≡ None
-told_none None answer Q h e = refl
-told_none (Some x) answer Q h e = let z : ◌≡◌ {A = ℕ} 0 1 = cc (h.0, e) in absurd (omega arith)
-
+-- an answer of a value tells which of two cases a clause speaks of
 pub told_some : {X : Type 0} (o : Option X) (answer : Option (Unit {0})) (Q : X → Type 0) → MatchOption o (answer ≡ None) (λ x. (answer ≡ Some tt) × Q x) → (u : Unit {0}) → answer ≡ Some u → (x : X) × (o ≡ Some x) × Q x
 told_some None answer Q h u e = let z : ◌≡◌ {A = ℕ} 0 1 = cc (h, e) in absurd (omega arith)
 told_some (Some x) answer Q h u e = (x, refl, h.1)

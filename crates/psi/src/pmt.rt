@@ -16,7 +16,7 @@ use section::{put_section, whole_section};
 
 // A packet under a `pmt` row as it leaves: patched; or `None` for one that is not patchable. Under a row and a table that keep its PIDs a patched
 // packet is patchable again, and stays as it is.
-#[tactic(auto, using(crate::proofs::Again::told, crate::proofs::Shapes::unopened, crate::proofs::Shapes::unsound, crate::proofs::Shapes::unfilled, crate::proofs::Shapes::told_none))]
+#[tactic(auto, using(crate::proofs::Again::told, crate::proofs::Shapes::unopened, crate::proofs::Shapes::unsound, crate::proofs::Shapes::unfilled))]
 pub fn patch(rows: &[Row], row: &Row, packet: &[u8]) -> Option<[u8; LENGTH]>
     ensures value { result ≡ patched rows.now row.now packet.now }
     ensures framed { IfSome result Framed }
@@ -33,7 +33,7 @@ pub fn patch(rows: &[Row], row: &Row, packet: &[u8]) -> Option<[u8; LENGTH]>
 }
 
 // What follows the pointer of a packet in which a section starts there: payload start, unscrambled, payload only, pointer 0.
-#[tactic(auto, using(crate::proofs::Packets::headed, crate::proofs::Packets::head_bad, crate::proofs::Shapes::opens_not, crate::proofs::Packets::good_parts))]
+#[tactic(auto, using(crate::proofs::Packets::head_bad, crate::proofs::Shapes::opens_not, crate::proofs::Packets::good_parts))]
 fn opened(packet: &[u8]) -> Option<&[u8]>
     ensures { MatchOption result (opens packet.now ≡ false) (λ bytes. (opens packet.now ≡ true) × (bytes.now ≡ drop 5 packet.now) × (length packet.now ≡ 188)) }
 {
