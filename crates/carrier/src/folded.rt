@@ -11,6 +11,7 @@ pub struct Folded {
     store: Store,
     // How many stuffing packets came since a packet was kept.
     pending: u8,
+    // How many packets are held, counted as they come so that `held` answers at once.
     held: usize,
     // The used bytes are whole folds: a packet and its count.
     ghost whole: { store.used % 189 ≡ 0 },

@@ -19,9 +19,9 @@ pub use strip::Strip;
 #[derive(Clone, Copy, PartialEq, Eq, Debug)]
 pub enum PutFault {
     // Not 188 bytes with the sync byte first.
-    NoPacket,
+    NoPacket = 15,
     // No place is free.
-    NoPlace,
+    NoPlace = 16,
 }
 
 impl PutFault {
@@ -29,10 +29,7 @@ impl PutFault {
     pub fn number(self) -> u8
         ensures { result ≡ number_of self }
     {
-        match self {
-            PutFault::NoPacket => 15,
-            PutFault::NoPlace => 16,
-        }
+        self as u8
     }
 }
 
@@ -66,8 +63,8 @@ pub trait Carrier {
         ensures { meaning self.new ≡ vacant (meaning self.old).capacity };
 
     // Copies packet `i`, counted from 0, into a place. Past the end it answers `None`, and the place stays as it is.
-    // The place is the caller's, and no packet is handed back by value, since C hands a place to write.
-    fn read(&self, i: usize, place: &mut [u8; 188]) -> Option<()>
+    // The place is the caller's: one equation says what stands in it, also past the end.
+    fn read(&self, i: usize, place: &mut [u8; LENGTH]) -> Option<()>
         ensures test { is_some result ≡ nat_lt i (length (meaning self.now).packets) }
         ensures after { place.new ≡ slice_index_or (meaning self.now).packets i place.old };
 

@@ -1,8 +1,8 @@
-// Both carriers, followed step by step, and code over any carrier.
+// Both carriers, call by call, and code over any carrier.
 #![tactic(auto)]
 
 pub mod copies;
 #[cfg(test)]
-mod steps;
+mod kinds;
 #[cfg(test)]
 mod tests;

@@ -1,5 +1,5 @@
 use crate::copies::copy_all;
-use crate::steps::{Kind, Step, follow, put, reads};
+use crate::kinds::{Kind, put, puts, reads, reads_none};
 use carrier::{Carrier, Folded, PutFault, Strip};
 use std::process::Abort;
 use std::test::Fail;
@@ -16,25 +16,19 @@ const SIZES: [(usize, usize, usize); 5] = [
 // Fills all places with packets that are no stuffing, and finds it full then.
 fn fills<C: Carrier>(rt: &impl Abort, carrier: &mut C, size: usize, places: usize) {
     assert_eq!(rt; carrier.capacity(), places, "a carrier of {size} bytes");
-    follow(
-        rt,
-        carrier,
-        &[
-            Step::HasFree(places),
-            Step::Holds(0),
-            Step::ReadsNone(0),
-            Step::Puts(places, Kind::Data(7)),
-            Step::HasFree(0),
-            Step::Holds(places),
-            Step::ReadsNone(places),
-            Step::Refuses(Kind::Data(8), PutFault::NoPlace),
-            Step::Refuses(Kind::Stuffing, PutFault::NoPlace),
-            // what is no packet is refused for that, full or not
-            Step::Refuses(Kind::Short, PutFault::NoPacket),
-            Step::Refuses(Kind::Unsynced, PutFault::NoPacket),
-            Step::Holds(places),
-        ],
-    );
+    assert_eq!(rt; carrier.free(), places);
+    assert_eq!(rt; carrier.held(), 0);
+    reads_none(rt, carrier, 0);
+    puts(rt, carrier, places, Kind::Data(7));
+    assert_eq!(rt; carrier.free(), 0);
+    assert_eq!(rt; carrier.held(), places);
+    reads_none(rt, carrier, places);
+    assert_eq!(rt; put(carrier, Kind::Data(8)), Err(PutFault::NoPlace));
+    assert_eq!(rt; put(carrier, Kind::Stuffing), Err(PutFault::NoPlace));
+    // what is no packet is refused for that, full or not
+    assert_eq!(rt; put(carrier, Kind::Short), Err(PutFault::NoPacket));
+    assert_eq!(rt; put(carrier, Kind::Unsynced), Err(PutFault::NoPacket));
+    assert_eq!(rt; carrier.held(), places);
     carrier.empty();
     assert_eq!(rt; carrier.capacity(), places, "emptied, of {size} bytes");
     assert_eq!(rt; carrier.free(), places, "emptied, of {size} bytes");
@@ -72,27 +66,21 @@ fn refusals_print_their_numbers(rt: HostRuntime) -> Result<(), Fail> {
 #[test]
 fn a_strip_is_emptied_and_filled_again(rt: HostRuntime) -> Result<(), Fail> {
     let mut strip = Strip::new(vec![in rt.alloc(); 0; 3 * 188]?);
-    follow(
-        &rt,
-        &mut strip,
-        &[
-            Step::Refuses(Kind::Short, PutFault::NoPacket),
-            Step::Puts(1, Kind::Data(1)),
-            Step::Puts(1, Kind::Stuffing),
-            Step::HasFree(1),
-            Step::Empties,
-            Step::HasFree(3),
-            Step::ReadsNone(0),
-            Step::Puts(1, Kind::Data(2)),
-            Step::Puts(1, Kind::OtherNull),
-            Step::Puts(1, Kind::Stuffing),
-            Step::Reads(0, Kind::Data(2)),
-            Step::Reads(1, Kind::OtherNull),
-            Step::Reads(2, Kind::Stuffing),
-            Step::ReadsNone(3),
-            Step::ReadsNone(usize::MAX),
-        ],
-    );
+    assert_eq!(rt; put(&mut strip, Kind::Short), Err(PutFault::NoPacket));
+    assert_eq!(rt; put(&mut strip, Kind::Data(1)), Ok(()));
+    assert_eq!(rt; put(&mut strip, Kind::Stuffing), Ok(()));
+    assert_eq!(rt; strip.free(), 1);
+    strip.empty();
+    assert_eq!(rt; strip.free(), 3);
+    reads_none(&rt, &strip, 0);
+    assert_eq!(rt; put(&mut strip, Kind::Data(2)), Ok(()));
+    assert_eq!(rt; put(&mut strip, Kind::OtherNull), Ok(()));
+    assert_eq!(rt; put(&mut strip, Kind::Stuffing), Ok(()));
+    reads(&rt, &strip, 0, Kind::Data(2));
+    reads(&rt, &strip, 1, Kind::OtherNull);
+    reads(&rt, &strip, 2, Kind::Stuffing);
+    reads_none(&rt, &strip, 3);
+    reads_none(&rt, &strip, usize::MAX);
     assert_eq!(rt; strip.bytes().len(), 3 * 188);
     Ok(())
 }
@@ -100,34 +88,28 @@ fn a_strip_is_emptied_and_filled_again(rt: HostRuntime) -> Result<(), Fail> {
 #[test]
 fn a_folded_carrier_is_emptied_and_filled_again(rt: HostRuntime) -> Result<(), Fail> {
     let mut folded = Folded::new(vec![in rt.alloc(); 0; 3 * 189]?);
-    follow(
-        &rt,
-        &mut folded,
-        &[
-            Step::Puts(1, Kind::Data(1)),
-            Step::Puts(9, Kind::Stuffing),
-            Step::HasFree(2),
-            Step::Holds(10),
-            // pending stuffing goes too
-            Step::Empties,
-            Step::Holds(0),
-            Step::HasFree(3),
-            Step::ReadsNone(0),
-            Step::Puts(1, Kind::Stuffing),
-            Step::Puts(1, Kind::Data(2)),
-            // other packets of the stuffing's PID are kept
-            Step::Puts(1, Kind::OtherNull),
-            Step::Puts(2, Kind::Stuffing),
-            Step::HasFree(1),
-            Step::Reads(0, Kind::Stuffing),
-            Step::Reads(1, Kind::Data(2)),
-            Step::Reads(2, Kind::OtherNull),
-            Step::Reads(3, Kind::Stuffing),
-            Step::Reads(4, Kind::Stuffing),
-            Step::ReadsNone(5),
-            Step::ReadsNone(usize::MAX),
-        ],
-    );
+    assert_eq!(rt; put(&mut folded, Kind::Data(1)), Ok(()));
+    puts(&rt, &mut folded, 9, Kind::Stuffing);
+    assert_eq!(rt; folded.free(), 2);
+    assert_eq!(rt; folded.held(), 10);
+    // pending stuffing goes too
+    folded.empty();
+    assert_eq!(rt; folded.held(), 0);
+    assert_eq!(rt; folded.free(), 3);
+    reads_none(&rt, &folded, 0);
+    assert_eq!(rt; put(&mut folded, Kind::Stuffing), Ok(()));
+    assert_eq!(rt; put(&mut folded, Kind::Data(2)), Ok(()));
+    // other packets of the stuffing's PID are kept
+    assert_eq!(rt; put(&mut folded, Kind::OtherNull), Ok(()));
+    puts(&rt, &mut folded, 2, Kind::Stuffing);
+    assert_eq!(rt; folded.free(), 1);
+    reads(&rt, &folded, 0, Kind::Stuffing);
+    reads(&rt, &folded, 1, Kind::Data(2));
+    reads(&rt, &folded, 2, Kind::OtherNull);
+    reads(&rt, &folded, 3, Kind::Stuffing);
+    reads(&rt, &folded, 4, Kind::Stuffing);
+    reads_none(&rt, &folded, 5);
+    reads_none(&rt, &folded, usize::MAX);
     assert_eq!(rt; folded.pending(), 2);
     assert_eq!(rt; folded.bytes().len(), 2 * 189);
     Ok(())
@@ -136,28 +118,19 @@ fn a_folded_carrier_is_emptied_and_filled_again(rt: HostRuntime) -> Result<(), F
 #[test]
 fn the_count_ends_at_255(rt: HostRuntime) -> Result<(), Fail> {
     let mut folded = Folded::new(vec![in rt.alloc(); 0; 2 * 189]?);
-    follow(
-        &rt,
-        &mut folded,
-        &[
-            Step::Puts(255, Kind::Stuffing),
-            Step::HasFree(2),
-            Step::Puts(1, Kind::Stuffing),
-            Step::HasFree(1),
-            Step::Puts(1, Kind::Data(3)),
-            Step::HasFree(0),
-            Step::Holds(257),
-            Step::Refuses(Kind::Stuffing, PutFault::NoPlace),
-        ],
-    );
+    puts(&rt, &mut folded, 255, Kind::Stuffing);
+    assert_eq!(rt; folded.free(), 2);
+    assert_eq!(rt; put(&mut folded, Kind::Stuffing), Ok(()));
+    assert_eq!(rt; folded.free(), 1);
+    assert_eq!(rt; put(&mut folded, Kind::Data(3)), Ok(()));
+    assert_eq!(rt; folded.free(), 0);
+    assert_eq!(rt; folded.held(), 257);
+    assert_eq!(rt; put(&mut folded, Kind::Stuffing), Err(PutFault::NoPlace));
     for i in 0..256 {
         reads(&rt, &folded, i, Kind::Stuffing);
     }
-    follow(
-        &rt,
-        &mut folded,
-        &[Step::Reads(256, Kind::Data(3)), Step::ReadsNone(257)],
-    );
+    reads(&rt, &folded, 256, Kind::Data(3));
+    reads_none(&rt, &folded, 257);
     let bytes = folded.bytes();
     assert!(rt; bytes.len() == 378);
     assert_eq!(rt; bytes[188], 255);

@@ -11,7 +11,7 @@ use psi::packet::{LENGTH, is_stuffing, stuffing};
 use std::mem;
 
 // A packet and its count.
-const FOLD: usize = 189;
+const FOLD: usize = LENGTH + 1;
 
 impl Folded {
     // Holds nothing yet, in the bytes that it is given.
@@ -74,7 +74,7 @@ impl Carrier for Folded {
     }
 
     // Walks from fold to fold: `left` packets are still to be passed. A fold of a chain would carry `left` and the place written in one, so a loop is plainer.
-    fn read(&self, i: usize, place: &mut [u8; 188]) -> Option<()> {
+    fn read(&self, i: usize, place: &mut [u8; LENGTH]) -> Option<()> {
         let mut left = i;
         for fold in self.bytes().chunks_exact(FOLD) {
             let count = usize::from(fold[LENGTH]);

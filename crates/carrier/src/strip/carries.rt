@@ -48,7 +48,7 @@ impl Carrier for Strip {
     }
 
     #[tactic(auto, unfolding(crate::specs::Pieces::cut))]
-    fn read(&self, i: usize, place: &mut [u8; 188]) -> Option<()> {
+    fn read(&self, i: usize, place: &mut [u8; LENGTH]) -> Option<()> {
         let (packets, _) = self.bytes().as_chunks::<LENGTH>();
         *place = *packets.get(i)?;
         Some(())
