@@ -1,11 +1,11 @@
 // The frames that two sites added, and from which of them on the two agree.
 #![tactic(auto)]
 
-ghost use Rattle.std.specs.Prelude.{◌≡◌, count_by, filter, map, position, ◌==◌, ◌&&◌, not};
+ghost use Rattle.std.specs.Prelude.{◌≡◌, position, ◌==◌, not};
 ghost use Rattle.std.specs.List.{list_any, zip};
 ghost use Rattle.agreement.specs.Agreement.{packets_in, PartsAt, FirstDifference, is_among, common_in, differ_in, EqualFrom, Agreed};
 
-// A packet has so many bytes.
+// A packet has so many bytes. The number stands here once more, since this crate needs no other crate.
 const PACKET: usize = 188;
 
 // A frame that a site added: its number, and its packets end to end.

@@ -3,7 +3,7 @@
 
 use anyhow::Context;
 use carrier::{Carrier, Folded, PutFault, Strip};
-use psi::packet::{Head, is_stuffing, stuffing};
+use psi::packet::{Head, LENGTH, is_stuffing, stuffing};
 use std::mem;
 
 // Packets that come in a row.
@@ -27,10 +27,13 @@ const RUNS: [Run; 7] = [
 // The bytes that each carrier is given.
 const BYTES: usize = 60_480;
 
+// A packet and its count in the bytes of a folded carrier.
+const FOLD: usize = LENGTH + 1;
+
 // A packet of this PID with an empty payload.
-fn packet_of(pid: u16) -> [u8; 188] {
+fn packet_of(pid: u16) -> [u8; LENGTH] {
     let [high, low] = pid.to_be_bytes();
-    let mut packet = [0; 188];
+    let mut packet = [0; LENGTH];
     packet[..4].copy_from_slice(&[0x47, high & 0x1f, low, 0x10]);
     packet
 }
@@ -65,7 +68,7 @@ fn show<C: Carrier>(rt: &HostRuntime, name: &str, carrier: &C, used: usize) -> a
     let free = carrier.free();
     let capacity = carrier.capacity();
     println!(rt; "{name}: {held} packets in {used} bytes, {free} of {capacity} places free")?;
-    let mut place = [0; 188];
+    let mut place = [0; LENGTH];
     let mut in_a_row = 0usize;
     // A carrier lends no packets: each is copied into a place, by its number.
     for i in 0..held {
@@ -92,8 +95,9 @@ fn show_stuffing(rt: &HostRuntime, times: usize) -> anyhow::Result<()> {
 // Prints the bytes of a folded carrier, a line for each packet that was kept.
 fn show_folds(rt: &HostRuntime, folded: &Folded) -> anyhow::Result<()> {
     println!(rt; "its bytes:")?;
-    for fold in folded.bytes().chunks_exact(189) {
-        let (count, packet) = fold.split_last().context("a fold is empty")?;
+    let (folds, _) = folded.bytes().as_chunks::<FOLD>();
+    for fold in folds {
+        let (packet, count) = (&fold[..LENGTH], fold[LENGTH]);
         println!(rt; "  PID {}, count {count}", pid_of(packet)?)?;
     }
     println!(rt; "  and {} pending", folded.pending())?;

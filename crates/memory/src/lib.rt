@@ -17,7 +17,8 @@ const MOST_LINES: usize = 4;
 const MOST_ROOM: usize = 4096;
 
 // The first `size` slots are the backlog's. The slots behind them are shared out among the parents, as many to each as to every other.
-// The lines stand in an array with their number beside it, since a memory takes none of the heap but the slots it is given.
+// All four lines are there from the start: a line in which nothing waits serves for one that is not a parent's.
+// Any `size` and any number of `parents` may be given: each is bounded where it is read, and so no precondition and no invariant is needed.
 #[derive(Drop)]
 pub struct Memory<T> {
     slots: Vec<T>,

@@ -17,6 +17,7 @@ pub struct Hall {
 }
 
 impl Hall {
+    // The calls stand twice, front and back: one call for both would take a number and say for each what stays, and there are only two.
     // A hall of `seats` places, of which the first `cut` are the front line's, with nobody in it.
     pub fn new(heap: Global, seats: usize, cut: usize) -> Result<Hall, AllocError>
         ensures { IfOk result (λ hall. (vec_len hall.memory ≡ seats) × (hall.cut ≡ cut) × (in_front hall ≡ []) × (at_back hall ≡ [])) }

@@ -136,6 +136,7 @@ fn fewer_slots(rt: HostRuntime) {
 #[derive(Drop)]
 struct Parent {
     line: Line<Packet>,
+    // Two numbers and no `Range`: that is not `Copy`, and a clone of it may fail.
     from: usize,
     to: usize,
 }
