@@ -1,5 +1,5 @@
 -- What a program that reads site logs is told of its files.
-use Rattle.std.specs.Prelude.{◌≡◌, List, ℕ, Ok, vec_items, string_bytes}
+use Rattle.std.specs.Prelude.{◌≡◌, Ok, vec_items, string_bytes}
 use Rattle.config.specs.Setup.{Setup}
 use Rattle.config.specs.Text.{Bytes}
 use Rattle.config.specs.Verdict.{verdict}

@@ -1,4 +1,7 @@
 // What is wrong with a line of a site log, or keeps a run from going on behind it.
+//
+// (`Display` and `From` stand here and are not derived by `thiserror`: its `From` does not say what it gives, which the
+// proofs of reading need, and two errors of allocation become one `Memory` that holds neither.)
 ghost use Rattle.std.specs.Prelude.{◌≡◌};
 ghost use Rattle.sitelog.specs.declared.fault.LineFault.TheVariants.{Memory};
 

@@ -26,7 +26,7 @@ fn byte(high: u8, low: u8) -> Option<u8>
     Some(digit(high)? * 16 + digit(low)?)
 }
 
-// The bytes that a word writes.
+// The bytes that a word writes. (Not a pattern `b"-"`: `same` tells of a word in the definitions' own word, `bytes_eq`.)
 pub fn bytes_in(heap: Global, word: &[u8]) -> Result<Vec<u8>, LineFault>
     ensures { BytesSo word.now result }
 {

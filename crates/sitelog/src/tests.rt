@@ -1,6 +1,7 @@
 // A configuration's text is accepted, and then gives its configuration; one that is not is refused by its line.
 use crate::accepted::Accepted;
 use crate::stop::{Stop, open};
+use std::fs;
 use std::test::Fail;
 
 const CONFIG: &[u8] =
@@ -9,10 +10,7 @@ const CONFIG: &[u8] =
 #[test]
 fn accepts_a_text(rt: HostRuntime) -> Result<(), Fail> {
     let heap = rt.alloc();
-    let accepted = match Accepted::of(heap, CONFIG.to_vec(heap)?) {
-        Ok(accepted) => accepted,
-        Err(stop) => return Err(Fail::new(stop)),
-    };
+    let accepted = Accepted::of(heap, CONFIG.to_vec(heap)?).map_err(Fail::new)?;
     let config = accepted.config(heap)?;
     assert_eq!(rt; config.ticks(), 10_000);
     assert_eq!(rt; config.rates().len(), 2);
@@ -35,5 +33,14 @@ fn tells_a_file_that_is_not_there(rt: HostRuntime) -> Result<(), Fail> {
         return Err(Fail::new("no fault of the file"));
     };
     assert_eq!(rt; path.as_str(), "no/such/file");
+    Ok(())
+}
+
+#[test]
+fn reads_a_file(rt: HostRuntime) -> Result<(), Fail> {
+    fs::write(&rt, "test.conf", CONFIG)?;
+    let accepted = Accepted::read(&rt, "test.conf").map_err(Fail::new)?;
+    assert_eq!(rt; accepted.config(rt.alloc())?.ticks(), 10_000);
+    fs::remove_file(&rt, "test.conf")?;
     Ok(())
 }

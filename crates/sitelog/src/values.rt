@@ -20,13 +20,16 @@ fn all_digits_in(word: &[u8]) -> bool
 }
 
 // Whether a word is one or more decimal digits.
+#[tactic(auto, using(crate::proofs::Digits::all_are, crate::proofs::Digits::long_enough))]
 fn are_digits(word: &[u8]) -> bool
     ensures { result ≡ digits word.now }
 {
     !word.is_empty() && all_digits_in(word)
 }
 
-// The number that decimal digits write, if it has 64 bits.
+// The number that decimal digits write, if it has 64 bits. (Not `str::parse`: a word is bytes, and made a `str` before it
+// would be no plainer.)
+#[tactic(auto, using(crate::proofs::Digits::written_begins))]
 fn value(word: &[u8]) -> Option<u64>
     requires { all_digits word.now ≡ true }
     ensures { result ≡ below (2 ^ 64) (written word.now) }
@@ -63,7 +66,7 @@ pub(crate) fn place(word: &[u8]) -> Result<Place, LineFault>
     Place::of(n).ok_or(LineFault::TooLarge(Field::Id))
 }
 
-// A time, or `-` for none.
+// A time, or `-` for none. (Not a pattern `b"-"`: `same` tells of a word in the definitions' own word, `bytes_eq`.)
 pub(crate) fn time(word: &[u8]) -> Result<Option<u64>, LineFault>
     ensures { result_ok result ≡ time_in word.now }
 {

@@ -19,7 +19,7 @@ use std::array;
 const MOST_ENTRIES: usize = 17_408;
 
 impl Place {
-    // The place of a number, if it has one.
+    // The place of a number, if it has one. (Not `TryFrom`: it has no error to tell but that there is none.)
     pub fn of(number: u64) -> Option<Place>
         ensures { SomeIff (option_map index_of result) (number < 16) number }
     {

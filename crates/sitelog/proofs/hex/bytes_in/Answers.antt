@@ -1,4 +1,4 @@
-use Rattle.std.proofs.Common.{rules, ◌≡◌, ◌++◌, slice_index_or, vec_items, Some, ap, ◌∙◌, arith}
+use Rattle.std.proofs.Common.{rules, ◌≡◌, slice_index_or, vec_items, Some, ap, ◌∙◌, arith}
 use Rattle.std.specs.Slice.Iter.{chunks_rest}
 use Rattle.sitelog.specs.Lines.{hex, hex_digit, pair}
 use Rattle.sitelog.proofs.Hexes.{behind, pair_read}

@@ -1,10 +1,7 @@
-use Rattle.std.proofs.Common.{◌≡◌, ◌+◌, ◌-◌, ◌*◌, ◌^◌, slice_index_or, drop, sym, ◌∙◌, arith}
+use Rattle.std.proofs.Common.{◌+◌, ◌-◌, ◌*◌, ◌^◌, slice_index_or, drop, sym, ◌∙◌, arith}
 use Rattle.config.specs.Text.{written, written_after}
-use Rattle.sitelog.proofs.Digits.{written_step, written_grows, written_begins, too_large}
+use Rattle.sitelog.proofs.Digits.{written_step, written_grows, too_large}
 use Rattle.sitelog.proofs.values.value.Goals as goal
-
-pub loop-b-init : goal.loop-b-init
-loop-b-init c = (c.requires, written_begins c.args.word.now, omega arith)
 
 pub returns-in_err-checked_mul : goal.returns-in_err-checked_mul
 returns-in_err-checked_mul c =
