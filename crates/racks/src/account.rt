@@ -14,7 +14,8 @@ pub(crate) struct Taken {
     // The time that it was handed with, or none.
     pub(crate) time: Option<u64>,
     pub(crate) bytes: Vec<u8>,
-    // Whether it is the first since power-up or the last loss.
+    // Whether it is the first since power-up or the last loss. (A flag with each packet: a list for each stretch between
+    // losses would be a list of lists, taken apart again where both sites' packets are put in order.)
     pub(crate) begins: bool,
 }
 

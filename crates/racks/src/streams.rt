@@ -6,7 +6,8 @@ use std::alloc::{AllocError, Global};
 #[derive(Clone, Copy)]
 struct Spot<'a> {
     taken: &'a Taken,
-    // Whether it is the last that was taken between two losses.
+    // Whether it is the last that was taken between two losses. (Of the next packet at the same site, which is not the
+    // next here, where those of both sites stand in one order.)
     ends: bool,
 }
 
@@ -58,7 +59,8 @@ impl Taken {
     }
 }
 
-// The first moment, in order of arrival, at which the packets are not those of one stream.
+// The first moment, in order of arrival, at which the packets are not those of one stream. (A loop: `open` and the packet
+// before go from each step to the next, and the last moment is looked at behind it.)
 fn first_break(spots: &[Spot]) -> Option<u64> {
     let mut open = Open {
         count: 0,
