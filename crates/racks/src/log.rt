@@ -74,16 +74,12 @@ impl<'a> Run<'a> {
     // A carrier is used by hand; what is only asked of it tells nothing.
     fn serve(&mut self, place: Place, what: Use) -> Result<(), Fault> {
         let site = self.site()?;
-        let is_there = match what {
-            Use::Put(packet) => site.put(place, packet.as_slice()).is_some(),
-            Use::Empty => site.empty(place).is_some(),
-            Use::Read(_) | Use::Free | Use::Bytes => site.carrier(place).is_some(),
+        let used = match what {
+            Use::Put(packet) => site.put(place, packet.as_slice()).map(drop),
+            Use::Empty => site.empty(place),
+            Use::Read(_) | Use::Free | Use::Bytes => site.carrier(place).map(drop),
         };
-        if is_there {
-            Ok(())
-        } else {
-            Err(Fault::NoCarrier)
-        }
+        used.ok_or(Fault::NoCarrier)
     }
 
     fn call(&mut self, call: Call) -> Result<(), Fault> {
@@ -142,16 +138,14 @@ where
     R: Drop,
 {
     let mut run = Run::new(heap, accepted)?;
-    let mut number = 0u64;
-    for line in BufReader::new(heap, log)?.lines(heap) {
-        number = number.saturating_add(1);
+    for (index, line) in BufReader::new(heap, log)?.lines(heap).enumerate() {
         let ended = line
             .map_err(Fault::Unreadable)
             .and_then(|line| run.line(line.as_bytes()));
         if let Err(fault) = ended {
             return Err(Stop::Line {
                 log: Some(String::from_str(heap, name)?),
-                number,
+                number: (index + 1) as u64,
                 fault,
             });
         }
