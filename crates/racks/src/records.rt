@@ -2,6 +2,7 @@
 use std::alloc::{AllocError, Global};
 use std::collections::{BTreeMap, BTreeSet};
 
+// As `Frame` of `rules` has it, but with an equality, which the definitions have no use for.
 #[derive(Clone, Copy, PartialEq, Eq)]
 pub(crate) struct Record {
     pub(crate) number: u32,

@@ -81,7 +81,10 @@ fn first_break(spots: &[Spot]) -> Option<u64> {
         open.meet(spot);
         last = Some(spot.taken);
     }
-    last.map(|before| before.arrival).filter(|_| !open.pass())
+    match last {
+        Some(before) if !open.pass() => Some(before.arrival),
+        _ => None,
+    }
 }
 
 // The first arrival at which the packets that two logs took from a parent do not fit in one stream.
