@@ -1,14 +1,13 @@
 -- What one packet does to a store of folds and to the pending stuffing.
-use Rattle.std.proofs.Common.{◌≡◌, ℕ, ◌+◌, ◌*◌, ◌/◌, ◌%◌, ◌≤◌, true, false, cond, [], ◌∷◌, ◌++◌, length, sym, ap, ◌∙◌, arith, lit<}
+use Rattle.std.proofs.Common.{◌≡◌, ℕ, ◌+◌, ◌*◌, ◌/◌, ◌%◌, ◌≤◌, true, false, [], ◌∷◌, ◌++◌, length, ap, ◌∙◌, arith, lit<}
 use Rattle.std.proofs.lemmas.Slice.Eq.{bytes_eq-Decides}
-use Rattle.std.proofs.lemmas.List.{append-nil}
-use Rattle.std.proofs.lemmas.Bool.{and_parts, cond-true, cond-false}
+use Rattle.std.proofs.lemmas.Bool.{and_parts}
 use Rattle.psi.specs.Packet.{Bytes, stuffing}
 use Rattle.carrier.specs.declared.store.Store.{Store}
-use Rattle.carrier.specs.Folds.{with_pending, left_out, fold_of}
+use Rattle.carrier.specs.Folds.{with_pending, left_out}
 use Rattle.carrier.specs.Meaning.{Carried}
 use Rattle.carrier.specs.Stores.{size, unused, written, housed}
-use Rattle.carrier.proofs.Stored.{whole_written, one_taken, housed_carried}
+use Rattle.carrier.proofs.Stored.{whole_written, housed_carried}
 use Rattle.carrier.proofs.Unfolding.{kept_more, left_out_more}
 
 -- Packet x comes to a store s with so much stuffing pending, and then there is the store t.
@@ -40,15 +39,3 @@ module _ {x : Bytes} {s : Store} {p : ℕ} {t : Store} {q : ℕ} where
           let e = ap (λ r. unused r / 189) same in
           record { packets = is; capacity = ap (λ r. size r / 189) same; at_most = omega arith; no_more = omega arith }
       carried (stays kept same more _ none) is = housed_carried 189 (lit< tt) s t same more x _ _ is
-
-  pub grown_bytes : Grown x s p t q → written t ≡ written s ++ fold_of x p
-  grown_bytes (goes out same more) = ap written same ∙ sym (append-nil (written s)) ∙ ap (λ l. written s ++ l) (sym (cond-true _ _ _ out))
-  grown_bytes (stays kept same more is none) = is ∙ ap (λ l. written s ++ l) (sym (cond-false _ _ _ kept))
-
-  pub grown_pending : Grown x s p t q → q ≡ cond (left_out x p) (p + 1) 0
-  grown_pending (goes out same more) = more ∙ sym (cond-true _ _ _ out)
-  grown_pending (stays kept same more is none) = none ∙ sym (cond-false _ _ _ kept)
-
-  pub grown_places : Grown x s p t q → unused t / 189 + cond (left_out x p) 0 1 ≡ unused s / 189
-  grown_places (goes out same more) = let e = ap (λ r. unused r / 189) same in ap (λ n. unused t / 189 + n) (cond-true _ 0 1 out) ∙ omega arith
-  grown_places (stays kept same more is none) = ap (λ n. unused t / 189 + n) (cond-false _ 0 1 kept) ∙ one_taken 189 (lit< tt) s t same more

@@ -1,7 +1,7 @@
 use Rattle.std.proofs.Common.{◌+◌, [], ◌∷◌, ◌++◌, length, sym, refl, ap, ◌∙◌, append_assoc, arith}
 use Rattle.std.proofs.lemmas.List.{length_push}
 use Rattle.carrier.specs.Stores.{written}
-use Rattle.carrier.proofs.Growth.{Grown, goes, stays, grown_whole, grown_bounded, grown_packets, grown_carried, grown_bytes, grown_pending, grown_places}
+use Rattle.carrier.proofs.Growth.{Grown, goes, stays, grown_whole, grown_bounded, grown_packets, grown_carried}
 use Rattle.carrier.proofs.folded.carries.FoldedCarrier.put.Goals as goal
 use Rattle.carrier.proofs.folded.carries.FoldedCarrier.put.Goals.{Joined-leaves_out, then-leaves_out, else-leaves_out}
 
@@ -37,8 +37,3 @@ invariant_of-self c =
 pub returns-clause-taken : goal.returns-clause-taken
 returns-clause-taken c =
     grown_carried (grown (goal.at.returns-clause-taken c).Joined-leaves_out) c.in_ok-admit.ensures.framed.long c.args.self.now.whole
-
-pub returns-clause-folds : goal.returns-clause-folds
-returns-clause-folds c =
-    let g = grown (goal.at.returns-clause-folds c).Joined-leaves_out in
-    record { bytes = grown_bytes g; pending = grown_pending g; places = grown_places g }
