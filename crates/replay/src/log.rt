@@ -16,7 +16,8 @@ fn answer(heap: Global, site: &mut Site, line: &[u8]) -> Result<Option<Reply>, F
     Ok(Some(site.answer(call)?))
 }
 
-// Replays a log at a site, and prints the answers.
+// Replays a log at a site, and prints the answers. (`racks` goes over lines too, and prints nothing: one function for both
+// would have to hand on faults of a line and of the output.)
 pub(crate) fn replay<R: Read, W: Write>(
     heap: Global,
     site: &mut Site,
@@ -26,15 +27,13 @@ pub(crate) fn replay<R: Read, W: Write>(
 where
     R: Drop,
 {
-    let mut number = 0u64;
-    for line in BufReader::new(heap, log)?.lines(heap) {
-        number = number.saturating_add(1);
+    for (index, line) in BufReader::new(heap, log)?.lines(heap).enumerate() {
         let reply = line
             .map_err(Fault::Unreadable)
             .and_then(|line| answer(heap, site, line.as_bytes()))
             .map_err(|fault| Stop::Line {
                 log: None,
-                number,
+                number: (index + 1) as u64,
                 fault,
             })?;
         if let Some(reply) = reply {

@@ -22,6 +22,7 @@ pub(crate) enum Reply {
     Free { free: usize, capacity: usize },
     Tally(Tally),
     Refused(Refusal),
+    // By a carrier, which has faults of its own: it knows nothing of an adapter.
     PutRefused(PutFault),
 }
 
@@ -41,7 +42,7 @@ impl fmt::Display for Reply {
             Reply::Free { free, capacity } => write!(f, "free {free} of {capacity}"),
             Reply::Tally(tally) => write!(f, "{tally}"),
             Reply::Refused(refusal) => write!(f, "{refusal}"),
-            Reply::PutRefused(fault) => write!(f, "refused {}", fault.number()),
+            Reply::PutRefused(fault) => write!(f, "{fault}"),
         }
     }
 }

@@ -57,6 +57,7 @@ impl fmt::Display for Stop {
 }
 
 // Opens a file to be read. What the file has is the system's; a fault tells which file it is.
+// (The closure of a `try_map_err` would have to say again whose path it tells.)
 pub fn open(rt: &HostRuntime, path: &str) -> Result<File, Stop>
     ensures { IfErr result (TellsOf path.now) }
 {
