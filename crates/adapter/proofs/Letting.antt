@@ -26,30 +26,10 @@ rest_is [] ys (Some x) e h = let z : ◌≡◌ {A = ℕ} 0 1 = cc in absurd (ome
 rest_is (x ∷ xs) ys None e h = let z : ◌≡◌ {A = ℕ} 0 1 = cc in absurd (omega arith)
 rest_is (x ∷ xs) ys (Some y) e h = cc
 
-below_one : (P : ℕ → Type 0) (n : ℕ) → ((q : ℕ) → q < n → P q) → P n → (q : ℕ) → q < n + 1 → P q
-below_one P n h here q k =
-    ⊎_elim (λ (lt : q < n). h q lt) (λ (ge : n ≤ q). let same : n ≡ q = omega arith in subst P same here) (cases_lt q n)
-
 -- R so far: the parents before p have an anchor, and this is the latest of their from-times
 pub record Latest-below (ts : List (Option Times)) (p latest : ℕ) : Type 0 where
   pub known : (q : ℕ) → q < p → get_or ts q None ≡ None → ⊥
   pub rest : max latest (latest_of (drop p ts)) ≡ latest_of ts
-
-pub latest_none : (ts : List (Option Times)) → Latest-below ts 0 0
-latest_none ts = record { known = λ q k silent. absurd (omega arith); rest = omega arith }
-
-pub latest_more : (ts : List (Option Times)) (p latest latest' : ℕ) (t : Times) → Latest-below ts p latest → p < length ts → get_or ts p None ≡ Some t → latest' ≡ max t.from latest
-    → Latest-below ts (p + 1) latest'
-latest_more ts p latest latest' t h within here e =
-    record {
-      known = below_one (λ q. get_or ts q None ≡ None → ⊥) p h.known (λ silent. let z : ◌≡◌ {A = ℕ} 0 1 = cc in omega arith);
-      rest =
-          let next : latest_of (drop p ts) ≡ max t.from (latest_of (drop (p + 1) ts)) = ap latest_of (drop_more ts p None within) ∙ ap (λ o. max (from_at o) (latest_of (drop (p + 1) ts))) here in
-          omega (arith, h.rest);
-    }
-
-pub latest_all : (ts : List (Option Times)) (p latest : ℕ) → length ts ≤ p → Latest-below ts p latest → LatestSo ts (Some latest)
-latest_all ts p latest all h = (λ q k. h.known q (omega arith), (let none : latest_of (drop p ts) ≡ 0 = ap latest_of (drop_all p ts all) in omega (arith, h.rest)))
 
 -- the from-times of the parents before n are another
 pub record Restarted-below (m n : ℕ) (before after : List (Option Times)) : Type 0 where
@@ -57,46 +37,11 @@ pub record Restarted-below (m n : ℕ) (before after : List (Option Times)) : Ty
   pub lower : (p : ℕ) (line : List Entry) → p < n → parent_of (get_or after p None) line ≡ moved m (parent_of (get_or before p None) line)
   pub others : (p : ℕ) → n ≤ p → get_or after p None ≡ get_or before p None
 
-pub restart_none : (m : ℕ) (ts : List (Option Times)) → Restarted-below m 0 ts ts
-restart_none m ts = record { many = refl; lower = λ p l k. absurd (omega arith); others = λ p k. refl }
-
-pub restart_one : (m p : ℕ) (ts₀ ts : List (Option Times)) (t : Option Times) → p < length ts → Restarted-below m p ts₀ ts
-    → ((line : List Entry) → parent_of t line ≡ moved m (parent_of (get_or ts p None) line))
-    → Restarted-below m (p + 1) ts₀ (set ts p t)
-restart_one m p ts₀ ts t within h made =
-    record {
-      many = length-set ts p t ∙ h.many;
-      lower = λ q l k.
-          ⊎_elim
-          (λ (same : q ≡ p).
-          subst (λ i. parent_of (get_or (set ts p t) i None) l ≡ moved m (parent_of (get_or ts₀ i None) l)) (sym same)
-          (ap (λ o. parent_of o l) (get_or-set_same ts p t None within) ∙ made l ∙ ap (λ o. moved m (parent_of o l)) (h.others p (omega arith))))
-          (λ (other : q ≢ p). ap (λ o. parent_of o l) (get_or-set_other ts p q t None other) ∙ h.lower q l (omega arith))
-          (cases_eq q p);
-      others = λ q k. get_or-set_other ts p q t None (λ same. omega arith) ∙ h.others q (omega arith);
-    }
-
-pub restart_all : (m n : ℕ) (ts₀ ts : List (Option Times)) → length ts₀ ≤ n → Restarted-below m n ts₀ ts → Restarted m ts₀ ts
-restart_all m n ts₀ ts all h =
-    record {
-      many = h.many;
-      each = λ q l.
-          ⊎_elim
-          (λ (lt : q < n). h.lower q l lt)
-          (λ (ge : n ≤ q).
-          let past = get_or_past ts₀ q None (omega arith) in
-          ap (λ o. parent_of o l) (h.others q ge ∙ past) ∙ sym (ap (λ o. moved m (parent_of o l)) past))
-          (cases_lt q n);
-    }
-
 -- the lines of the first n parents are cut
 pub record Cut-below (m n : ℕ) (ls₀ ls : List (List Entry)) : Type 0 where
   pub many : length ls ≡ length ls₀
   pub lower : (q : ℕ) → q < n → get_or ls q [] ≡ from_on m (get_or ls₀ q [])
   pub others : (q : ℕ) → n ≤ q → get_or ls q [] ≡ get_or ls₀ q []
-
-pub cut_none : (m : ℕ) (ls : List (List Entry)) → Cut-below m 0 ls ls
-cut_none m ls = record { many = refl; lower = λ q k. absurd (omega arith); others = λ q k. refl }
 
 pub cut_one : (m p : ℕ) (ls₀ ls ls' : List (List Entry)) → p < length ls → Cut-below m p ls₀ ls → ls' ≡ set ls p (from_on m (get_or ls p [])) → Cut-below m (p + 1) ls₀ ls'
 cut_one m p ls₀ ls ls' within h is =

@@ -1,12 +1,9 @@
 use Rattle.std.proofs.Common.{◌≡◌, [], length, get_or, set, ap, ◌∙◌, subst, arith}
 use Rattle.memory.proofs.Shares.{length_lines}
 use Rattle.memory.specs.Memory.{lines_in, line_in}
-use Rattle.adapter.proofs.Keeping.{same_then, unchanged}
-use Rattle.adapter.proofs.Letting.{Cut-below, cut_none, cut_one, cut_all, entries_from}
+use Rattle.adapter.proofs.Keeping.{same_then}
+use Rattle.adapter.proofs.Letting.{Cut-below, cut_one, cut_all, entries_from}
 use Rattle.adapter.proofs.state.lines.let_go.Goals as goal
-
-pub loop-p-init : goal.loop-p-init
-loop-p-init c = (cut_none c.args.since (lines_in c.args.memory.now), unchanged c.args.memory.now)
 
 pub loop-p-preserved : goal.loop-p-preserved
 unfolding line_in
