@@ -1,15 +1,15 @@
 -- Letting go and restarting, for all parents one after the other.
 use Rattle.std.proofs.Common.{◌≡◌, ℕ, ◌+◌, ◌<◌, ◌≤◌, max, cond, ltb, ◌≢◌, List, [], ◌∷◌, ◌++◌, map, length, get_or, drop, set, Some, None, Option, sym, refl, ap, ◌∙◌, subst, ⊎_elim, arith}
 use lib.ListN.{get_or-map}
-use Rattle.std.proofs.lemmas.List.{get_or-set_same, get_or-set_other, get_or_past, length-set, drop_more, drop_all, ext_get_or, length-map}
-use Rattle.std.proofs.lemmas.Bool.{cases_eq, cases_lt}
+use Rattle.std.proofs.lemmas.List.{get_or-set_same, get_or-set_other, length-set, ext_get_or, length-map}
+use Rattle.std.proofs.lemmas.Bool.{cases_eq}
 use Rattle.std.specs.Option.{option_to_list}
 use Rattle.waiting.specs.Waiting as waiting
 use Rattle.rules.specs.Entries.{Entry}
 use Rattle.rules.specs.Slots.{Frame}
 use Rattle.rules.specs.Calls.{records_from}
 use Rattle.rules.specs.Entries.{from_on}
-use Rattle.adapter.specs.Parents.{parent_of, moved, Restarted, from_at, latest_of, LatestSo}
+use Rattle.adapter.specs.Parents.{parent_of, moved, latest_of}
 use Rattle.adapter.specs.declared.times.Times.{Times}
 
 pub entries_from : (m : ℕ) (l : List Entry) → waiting.from_on (λ (e : Entry). e.arrival) m l ≡ from_on m l

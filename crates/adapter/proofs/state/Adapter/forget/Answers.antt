@@ -12,11 +12,6 @@ use Rattle.adapter.proofs.Views.{parents_set, state-≡, reached_by}
 use Rattle.adapter.proofs.state.Adapter.forget.Goals as goal
 use Rattle.adapter.proofs.state.Adapter.forget.Goals.{After-after-self}
 
-pub listed : goal.listed
-listed c =
-    let low : c.args.parent < length (vec_items c.args.self.now.config.rates) = c.requires.listed in
-    omega (arith, c.args.self.now.config.parents.0, c.args.self.now.places)
-
 lines : (c : After-after-self) → lines_in c.empty_backlog.new.self ≡ set (lines_in c.args.self.now.memory) c.args.parent []
 lines c = c.empty_backlog.ensures.rest.lines ∙ c.clear.ensures.lines
 
@@ -46,7 +41,5 @@ invariant_of-self c =
       reached = reached_by (loss c.args.parent lost) (shares c).entries (loses c.requires refl (left c)) a.reached;
     }
 
-pub returns : goal.returns
-returns c =
-    let d = (goal.at.returns c).After-after-self in
-    record { after = left d; same = record { config = refl; entries = (shares d).entries } }
+pub returns-clause-after : goal.returns-clause-after
+returns-clause-after c = left (goal.at.returns-clause-after c).After-after-self

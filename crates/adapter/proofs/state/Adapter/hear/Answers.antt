@@ -26,26 +26,18 @@ good c = record { known = c.in_ok-listed.ensures; good = (delivered_good _ _ _ c
 at_ok : (rate : ℕ) (P : Parent) (t : Option ℕ) {o o' : Option Times} → o ≡ o' → StampedSo rate P t (Ok o) → StampedSo rate P t (Ok o')
 at_ok rate P t is h = subst (λ o. StampedSo rate P t (Ok o)) is h
 
-pub returns-in_default-stamped : goal.returns-in_default-stamped
-returns-in_default-stamped c =
+pub returns-in_default-stamped-clause-rule : goal.returns-in_default-stamped-clause-rule
+returns-in_default-stamped-clause-rule c =
     let a = c.args.self.now in
     let so = at_ok _ _ _ c.in_default-stamped.is (c.in-Ok-stamp.ensures (line_in a.memory c.args.parent)) in
-    record {
-      rule = unanchored (good (goal.at.returns-in_default-stamped c).After-stamp) (parent_is a c.args.parent c.in_ok-listed.ensures c.index-self-parent.result ∙ so.0) so.1 refl refl;
-      same = record { config = refl; entries = refl };
-    }
+    unanchored (good (goal.at.returns-in_default-stamped-clause-rule c).After-stamp) (parent_is a c.args.parent c.in_ok-listed.ensures c.index-self-parent.result ∙ so.0) so.1 refl refl
 
-pub returns-in_default-stamp : goal.returns-in_default-stamp
-returns-in_default-stamp c =
+pub returns-in_default-stamp-clause-rule : goal.returns-in_default-stamp-clause-rule
+returns-in_default-stamp-clause-rule c =
     let a = c.args.self.now in
-    let so = c.in_default-stamp.ensures (line_in a.memory c.args.parent) in
-    record {
-      rule =
-          untimely (good (goal.at.returns-in_default-stamp c).After-stamp)
-          (subst (λ P. Untimely P c.args.time) (sym (parent_is a c.args.parent c.in_ok-listed.ensures c.index-self-parent.result)) so)
-          refl c.forget-in_default-stamp.ensures.after;
-      same = c.forget-in_default-stamp.ensures.same;
-    }
+    untimely (good (goal.at.returns-in_default-stamp-clause-rule c).After-stamp)
+    (subst (λ P. Untimely P c.args.time) (sym (parent_is a c.args.parent c.in_ok-listed.ensures c.index-self-parent.result)) (c.in_default-stamp.ensures (line_in a.memory c.args.parent)))
+    refl c.forget-in_default-stamp.ensures.after
 
 arrives : (c : After-keep) → Arrives (setup_of c.args.self.now) (entries_of c.args.self.now) (view c.args.self.now) c.args.parent c.args.packet.now c.args.time (stamp_of c.in-Some.times)
 arrives c =
@@ -72,22 +64,16 @@ invariant_of-self c =
       reached = subst (λ n. Reached (setup_of a) n (state_from m a.heard a.records a.step)) (sym rest.shares.entries) (subst (Reached (setup_of a) (entries_of a)) (sym state) a.reached);
     }
 
-pub returns-in_err-heard : goal.returns-in_err-heard
-returns-in_err-heard c =
+pub returns-in_err-heard-clause-rule : goal.returns-in_err-heard-clause-rule
+returns-in_err-heard-clause-rule c =
     let a = c.args.self.now in
     let listed = c.in_ok-listed.ensures in
     let m = c.keep.new.memory in
-    let k = (goal.at.returns-in_err-heard c).After-keep in
-    let rest = c.keep.ensures.rest in
-    let stays = full_stays _ c.in_err-heard.ensures.rule in
-    let state = same_state a c.args.parent listed m c.keep.ensures.lines stays rest.backlog in
+    let k = (goal.at.returns-in_err-heard-clause-rule c).After-keep in
+    let state = same_state a c.args.parent listed m c.keep.ensures.lines (full_stays _ c.in_err-heard.ensures.rule) c.keep.ensures.rest.backlog in
     let err = err_from_is_err_and c.from_residual-in_err-heard.result c.from_residual-in_err-heard.ensures.1 in
-    record {
-      rule =
-          subst (λ r. Hears (setup_of a) (entries_of a) (view a) c.args.parent c.args.packet.now c.args.time (hear_answer r) (state_from m a.heard a.records a.step)) (sym (err.1 ∙ ap Err err.2))
-          (heard_full _ _ _ _ _ _ _ _ _ _ _ (arrives k) (maps k) a.room (line_is a c.args.parent listed) _ _ c.in_err-heard.ensures.rule state);
-      same = record { config = refl; entries = rest.shares.entries };
-    }
+    subst (λ r. Hears (setup_of a) (entries_of a) (view a) c.args.parent c.args.packet.now c.args.time (hear_answer r) (state_from m a.heard a.records a.step)) (sym (err.1 ∙ ap Err err.2))
+    (heard_full _ _ _ _ _ _ _ _ _ _ _ (arrives k) (maps k) a.room (line_is a c.args.parent listed) _ _ c.in_err-heard.ensures.rule state)
 
 -- the packet was taken
 rule : (c : After-keep) (h : Heard)
@@ -114,9 +100,5 @@ invariant_of-self-2 c =
       reached = reached_by (hear c.args.parent c.args.packet.now c.args.time (hear_answer (Ok c.in_ok-heard.heard))) rest.shares.entries (rule k c.in_ok-heard.heard c.in_ok-heard.ensures.rule) a.reached;
     }
 
-pub returns : goal.returns
-returns c =
-    record {
-      rule = rule (goal.at.returns c).After-keep c.in_ok-heard.heard c.in_ok-heard.ensures.rule;
-      same = record { config = refl; entries = c.keep.ensures.rest.shares.entries };
-    }
+pub returns-clause-rule : goal.returns-clause-rule
+returns-clause-rule c = rule (goal.at.returns-clause-rule c).After-keep c.in_ok-heard.heard c.in_ok-heard.ensures.rule

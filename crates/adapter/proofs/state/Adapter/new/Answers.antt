@@ -43,7 +43,5 @@ invariant_of-result c =
       reached = subst (Reached (setup config) (entries_in m)) (sym (powered c)) ∣ ([], begins) ∣₁;
     }
 
-pub returns : goal.returns
-returns c =
-    let d = (goal.at.returns c).After-new in
-    record { powered = powered d; configured = refl; sized = c.new-memory.ensures.entries }
+pub returns-clause-powered : goal.returns-clause-powered
+returns-clause-powered c = powered (goal.at.returns-clause-powered c).After-new

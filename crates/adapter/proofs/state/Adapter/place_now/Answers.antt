@@ -1,4 +1,4 @@
-use Rattle.std.proofs.Common.{◌≡◌, ◌+◌, ◌≤◌, List, length, drop, vec_items, sym, refl, ap, ◌∙◌, subst, arith}
+use Rattle.std.proofs.Common.{◌≡◌, ◌+◌, ◌≤◌, List, length, drop, vec_items, sym, ap, ◌∙◌, subst, arith}
 use Rattle.memory.specs.Memory.{lines_in, backlog_in, entries_in, SameShares}
 use Rattle.psi.specs.Packet.{Bytes}
 use Rattle.rules.specs.Calls.{Frames, placed}
@@ -13,7 +13,7 @@ use Rattle.adapter.proofs.Keeping.{still_shared, same_then}
 use Rattle.adapter.proofs.Placed.{rising_begun, turns_are, parents_left, count_left, placed_rule}
 use Rattle.adapter.proofs.Sounds.{begun_whole, backlog_whole, doubt_low, few}
 use Rattle.adapter.proofs.Standing.{known_all, quiet_restarted, start_low, slots_low, slots_some}
-use Rattle.adapter.proofs.Turns.{goes_means, kept, lines_in_order}
+use Rattle.adapter.proofs.Turns.{goes_means, lines_in_order}
 use Rattle.adapter.proofs.Views.{state-≡, reached_by}
 use Rattle.adapter.proofs.state.Adapter.place_now.Given as given
 use Rattle.adapter.proofs.state.Adapter.place_now.Goals as goal
@@ -109,7 +109,5 @@ invariant_of-self g c =
       reached = reached_by (framed _ _ _) (shares g c).entries (rule g c) a.reached;
     }
 
-pub returns : goal.returns
-returns g c =
-    let d = (goal.at.returns g c).After-after-self in
-    record { rule = rule g d; same = record { config = refl; entries = (shares g d).entries }; kept = kept g.C.Carrier.meaning (adds_in c.args.self.now.step) _ _ _ (goes g d) }
+pub returns-clause-rule : goal.returns-clause-rule
+returns-clause-rule g c = rule g (goal.at.returns-clause-rule g c).After-after-self

@@ -56,7 +56,5 @@ invariant_of-self c =
           (skips c.requires.frame c.requires.rest hs c.requires.called c.requires.early refl (left c) refl) a.reached;
     }
 
-pub returns : goal.returns
-returns c =
-    let d = (goal.at.returns c).After-after-self in
-    record { after = left d; same = record { config = refl; entries = (shares d).entries } }
+pub returns-clause-after : goal.returns-clause-after
+returns-clause-after c = left (goal.at.returns-clause-after c).After-after-self

@@ -1,4 +1,4 @@
-use Rattle.std.proofs.Common.{rules, ◌≡◌, ℕ, ◌<◌, ◌≤◌, Bool, true, false, cond, ltb, ◌&&◌, [], ◌∷◌, ◌++◌, length, get_or, set, is_ok, Ok, Err, sym, refl, ap, ◌∙◌, inl, inr}
+use Rattle.std.proofs.Common.{rules, ◌≡◌, ℕ, ◌<◌, ◌≤◌, Bool, true, false, cond, ltb, ◌&&◌, [], ◌∷◌, ◌++◌, length, get_or, set, is_ok, Ok, Err, sym, refl, ap, ◌∙◌}
 use Rattle.std.proofs.lemmas.List.{set-get_or}
 use Rattle.std.proofs.lemmas.Bool.{ltb-true, ltb-false, lt-ltb}
 use Rattle.memory.proofs.Shares.{line_after}
@@ -8,39 +8,24 @@ use Rattle.psi.specs.Delivery.{Delivery, meant, deliverable}
 use Rattle.rules.specs.Entries.{Entry}
 use Rattle.rules.specs.Times.{Stamp}
 use Rattle.adapter.specs.Answers.{hear_answer}
-use Rattle.adapter.specs.Keeping.{Keeps, passes, drops, fills, holds}
+use Rattle.adapter.specs.Keeping.{Keeps, fills, holds}
 use Rattle.adapter.specs.Parents.{stamp_of}
 use Rattle.adapter.specs.declared.answer.Heard.TheVariants.{Held}
 use Rattle.adapter.specs.declared.answer.Refusal.TheVariants.{FullLine}
-use Rattle.adapter.proofs.Keeping.{unchanged, and_right, and_right_false}
+use Rattle.adapter.proofs.Keeping.{and_right, and_right_false}
 use Rattle.adapter.proofs.state.heard.keep.Goals as goal
 
-pub returns-then-comes_early : goal.returns-then-comes_early
+pub returns-then-comes_early-clause-lines : goal.returns-then-comes_early-clause-lines
 unfolding line_in
-returns-then-comes_early c =
-    record {
-      rule = passes (inr (ltb-true _ _ (sym c.comes_early.ensures ∙ c.if-comes_early.true))) refl refl;
-      lines = sym (set-get_or (lines_in c.args.memory.now) c.args.parent []);
-      rest = unchanged c.args.memory.now;
-    }
+returns-then-comes_early-clause-lines c = sym (set-get_or (lines_in c.args.memory.now) c.args.parent [])
 
-pub returns-in-Unmapped : goal.returns-in-Unmapped
+pub returns-in-Unmapped-clause-lines : goal.returns-in-Unmapped-clause-lines
 unfolding line_in
-returns-in-Unmapped c =
-    record {
-      rule = passes (inl (ap meant c.in-Unmapped.is)) refl refl;
-      lines = sym (set-get_or (lines_in c.args.memory.now) c.args.parent []);
-      rest = unchanged c.args.memory.now;
-    }
+returns-in-Unmapped-clause-lines c = sym (set-get_or (lines_in c.args.memory.now) c.args.parent [])
 
-pub returns-in-Unpatchable : goal.returns-in-Unpatchable
+pub returns-in-Unpatchable-clause-lines : goal.returns-in-Unpatchable-clause-lines
 unfolding line_in
-returns-in-Unpatchable c =
-    record {
-      rule = drops (ltb-false _ _ (sym c.comes_early.ensures ∙ c.if-comes_early.false)) (ap meant c.in-Unpatchable.is) refl refl;
-      lines = sym (set-get_or (lines_in c.args.memory.now) c.args.parent []);
-      rest = unchanged c.args.memory.now;
-    }
+returns-in-Unpatchable-clause-lines c = sym (set-get_or (lines_in c.args.memory.now) c.args.parent [])
 
 -- a packet that is delivered in time takes its place, if its parent's line has room
 placed : (m m' : Memory Entry) (p : ℕ) (e : Entry) (σ : Stamp) (d : Delivery) (b : Bool)
