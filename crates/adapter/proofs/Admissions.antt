@@ -1,6 +1,6 @@
 -- One admission, and one slot's use, for the loops that place a frame.
 use Rattle.std.proofs.Common.{◌≡◌, ℕ, zero, suc, ◌+◌, ◌-◌, ◌*◌, ◌/◌, ◌<◌, ◌≤◌, min, Bool, true, false, cond, ltb, List, [], ◌∷◌, ◌++◌, map, length, get_or, sym, refl, ap, ◌∙◌, subst, ⊎_elim, arith}
-use Rattle.std.proofs.lemmas.Bool.{cases_lt, lt-ltb, le-ltb, eq-eqb, ne_eqb}
+use Rattle.std.proofs.lemmas.Bool.{cases_lt, lt-ltb, le-ltb, ne_eqb}
 use Rattle.memory.specs.Memory.{lines_in, backlog_in, size_in}
 use Rattle.memory.specs.declared.Memory.{Memory}
 use Rattle.rules.proofs.Merging.{Rising, rising_rest, lines_start_at, length_merged_first}
@@ -19,13 +19,6 @@ use_no n copies slot (suc j) h other =
     let down : j ≡ suc j - 1 = omega arith in
     subst (λ k. use_among n copies slot (suc j) ≡ use_among n copies slot k) down
     (ap (λ b. cond b (pat j) (use_among n copies slot j)) (ne_eqb (j * n / copies) slot (λ e. other (subst (λ k. k * n / copies ≡ slot) down e))))
-
-pub use_yes : (n copies slot i : ℕ) → 0 < i → (i - 1) * n / copies ≡ slot → use_among n copies slot i ≡ pat (i - 1)
-use_yes n copies slot zero h e = absurd (omega arith)
-use_yes n copies slot (suc j) h e =
-    let down : j ≡ suc j - 1 = omega arith in
-    subst (λ k. use_among n copies slot (suc j) ≡ pat k) down
-    (ap (λ b. cond b (pat j) (use_among n copies slot j)) (eq-eqb (j * n / copies) slot (subst (λ k. k * n / copies ≡ slot) (sym down) e)))
 
 -- equals in the place of equals
 admitting_at : (q lim : ℕ) (b₀ : List Entry) (x₀ d₀ : ℕ) (es₀ : List Entry) {b b' : List Entry} {x x' d d' : ℕ} {es es' : List Entry}

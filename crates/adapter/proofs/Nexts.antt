@@ -4,7 +4,7 @@ use Rattle.std.proofs.lemmas.Bool.{cases_lt}
 use Rattle.waiting.specs.Waiting.{oldest}
 use Rattle.rules.proofs.Merging.{NotBefore, NoneBefore, Earliest}
 use Rattle.rules.specs.Entries.{Entry}
-use Rattle.adapter.specs.Placing.{first_of, NoneEarlier, First-in, NextIn}
+use Rattle.adapter.specs.Placing.{first_of, NoneEarlier, First-in}
 
 pub none_earlier_more : (m n : ℕ) (ls : List (List Entry)) → NoneEarlier m n ls → ((d : Entry) → first_of ls n ≡ Some d → m ≤ d.arrival) → NoneEarlier m (n + 1) ls
 none_earlier_more m n ls h here =
@@ -67,10 +67,6 @@ best_changes limit n ls bound o x h e lt =
         others = none_earlier_more x.arrival n ls (none_earlier_less x.arrival bound n ls (omega arith) below) (λ d k. omega (arith, same_first e k));
       },
     )
-
-pub best_end : (limit : ℕ) (ls : List (List Entry)) (bound : ℕ) (o : Option ℕ) → Best limit (length ls) ls bound o → NextIn limit ls o
-best_end limit ls bound None h = h.1
-best_end limit ls bound (Some p) h = (h.0, h.2)
 
 -- the same as the rules' proofs have it
 not_before : (m : ℕ) (l : List Entry) → ((d : Entry) → oldest l ≡ Some d → m ≤ d.arrival) → NotBefore m l

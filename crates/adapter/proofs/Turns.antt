@@ -146,10 +146,6 @@ pub goes_means : {C : Type 0} (meaning : C → Meaning) (adding : Bool) (put : L
 goes_means meaning true put k k' g = g
 goes_means meaning false put k k' g = ap meaning g
 
-pub kept : {C : Type 0} (meaning : C → Meaning) (adding : Bool) (put : List Bytes) (k k' : C) → Goes meaning adding put k k' → adding ≡ false → k' ≡ k
-kept meaning true put k k' g e = never true refl e
-kept meaning false put k k' g e = g
-
 module _ {C : Type 0} (meaning : C → Meaning) where
   goes_none : (adding : Bool) (k : C) → Goes meaning adding [] k k
   goes_none true k = carried_none (meaning k)

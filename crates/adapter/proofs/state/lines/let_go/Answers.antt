@@ -16,8 +16,8 @@ loop-p-preserved c =
       record { backlog = rest.backlog ∙ i.1.backlog; shares = same_then _ _ _ i.1.shares rest.shares },
     )
 
-pub returns : goal.returns
-returns c =
+pub returns-clause-lines : goal.returns-clause-lines
+returns-clause-lines c =
     let m₀ = c.args.memory.now in
     let all : c.loop-p.p ≡ length (lines_in m₀) = omega (arith, length_lines m₀, c.parents-p-end.ensures.lines) in
-    record { lines = cut_all c.args.since (lines_in m₀) _ (subst (λ n. Cut-below c.args.since n (lines_in m₀) (lines_in c.loop-p.memory)) all c.loop-p.invariant.0); rest = c.loop-p.invariant.1 }
+    cut_all c.args.since (lines_in m₀) _ (subst (λ n. Cut-below c.args.since n (lines_in m₀) (lines_in c.loop-p.memory)) all c.loop-p.invariant.0)
