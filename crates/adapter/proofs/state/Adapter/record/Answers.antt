@@ -8,20 +8,14 @@ use Rattle.adapter.proofs.Keeping.{never, still_shared, quiet_same, queue_rule}
 use Rattle.adapter.proofs.Views.{state-≡, reached_by}
 use Rattle.adapter.proofs.state.Adapter.record.Goals as goal
 
-pub invariant_of-self-then-precede : goal.invariant_of-self-then-precede
-invariant_of-self-then-precede c =
+pub invariant_of-self-then-precede-clause-reached : goal.invariant_of-self-then-precede-clause-reached
+invariant_of-self-then-precede-clause-reached c =
     let a = c.args.self.now in
     let f : Frame = record { number = c.args.number; start = c.args.start; slots = c.args.slots } in
     let rule = queue_rule (setup_of a) (entries_of a) (view a) f (is_ok c.queue.result) _ _
     (c.is_roomy.ensures.0 c.if-not-is_roomy.false) (c.in_range.ensures.0 c.if-not-in_range.false) (c.precede.ensures.0 c.if-precede.true)
-    c.queue.ensures.test c.queue.ensures.waits c.queue.ensures.last in record {
-      places = a.places;
-      parents = a.parents;
-      size = a.size;
-      room = a.room;
-      quiet = a.quiet;
-      reached = reached_by (recorded f (cond (is_ok c.queue.result) queued (refused_record 11))) refl rule a.reached;
-    }
+    c.queue.ensures.test c.queue.ensures.waits c.queue.ensures.last in
+    reached_by (recorded f (cond (is_ok c.queue.result) queued (refused_record 11))) refl rule a.reached
 
 pub invariant_of-self-2 : goal.invariant_of-self-2
 invariant_of-self-2 c =
