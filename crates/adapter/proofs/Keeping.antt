@@ -1,15 +1,14 @@
 -- What every call keeps of the adapter's invariants.
-use Rattle.std.proofs.Common.{◌≡◌, ℕ, ◌<◌, ◌≤◌, min, Bool, true, false, cond, ◌&&◌, ltb, ◌≢◌, List, [], ◌∷◌, ◌++◌, length, get_or, set, Some, None, vec_len, Option, sym, refl, ap, ◌∙◌, subst, ⊎_elim, arith}
+use Rattle.std.proofs.Common.{◌≡◌, ℕ, ◌<◌, ◌≤◌, Bool, true, false, cond, ◌&&◌, ltb, ◌≢◌, List, [], ◌∷◌, ◌++◌, length, get_or, set, Some, None, Option, sym, refl, ap, ◌∙◌, subst, ⊎_elim, arith}
 use Rattle.std.proofs.lemmas.List.{get_or-set_other, get_or-set_same, get_or_past, length-set}
 use Rattle.std.proofs.lemmas.Bool.{cases_eq, cases_lt, ltb-true, ltb-false}
-use Rattle.config.specs.Setup.{Setup, setup}
-use Rattle.config.specs.declared.table.Config.{Config}
-use Rattle.memory.specs.Memory.{entries_in, size_in, parents_in, room_in, line_in, lines_in, SameShares, OnlyLines}
+use Rattle.config.specs.Setup.{Setup}
+use Rattle.memory.specs.Memory.{line_in, lines_in, SameShares, OnlyLines}
 use Rattle.memory.specs.declared.Memory.{Memory}
 use Rattle.rules.specs.Entries.{Entry}
 use Rattle.rules.specs.Slots.{Frame}
 use Rattle.rules.specs.Calls.{queued, refused_record, Records, eight, queues, InRange, Follows}
-use Rattle.rules.specs.State.{State, Roomy, line_room, line_of}
+use Rattle.rules.specs.State.{State, Roomy, line_of}
 use Rattle.adapter.specs.Parents.{parent_of}
 use Rattle.adapter.specs.declared.times.Times.{Times}
 use Rattle.adapter.proofs.Views.{state-≡}
@@ -24,20 +23,6 @@ and_right false b e = never false (sym e) refl
 pub and_right_false : (a b : Bool) → a ≡ true → false ≡ (a && b) → b ≡ false
 and_right_false true b h e = sym e
 and_right_false false b h e = never false h refl
-
--- The memory is shared out as the configuration says.
-abbrev pub Shared : Config → Memory Entry → Type 0
-Shared config m =
-    (parents_in m ≡ vec_len config.rates)
-    × (size_in m ≡ min config.settings.backlog (entries_in m))
-    × (room_in m ≡ line_room (setup config) (entries_in m))
-
-pub still_shared : (config : Config) (m m' : Memory Entry) → SameShares m m' → Shared config m → Shared config m'
-still_shared config m m' s h = (
-  s.parents ∙ h.0,
-  s.size ∙ h.1 ∙ ap (min config.settings.backlog) (sym s.entries),
-  s.room ∙ h.2 ∙ ap (line_room (setup config)) (sym s.entries),
-)
 
 pub same_then : (m m' m'' : Memory Entry) → SameShares m m' → SameShares m' m'' → SameShares m m''
 same_then m m' m'' s t =

@@ -1,5 +1,4 @@
 use Rattle.std.proofs.Common.{◌≡◌, ◌<◌, [], length, set, None, vec_items, refl, ap, ◌∙◌, arith}
-use Rattle.std.proofs.lemmas.List.{length-set}
 use Rattle.memory.specs.Memory.{lines_in, SameShares}
 use Rattle.rules.specs.Calls.{loses, lost}
 use Rattle.rules.specs.Log.{loss}
@@ -7,7 +6,7 @@ use Rattle.rules.specs.State.{lose}
 use Rattle.adapter.specs.Fields.{state_from}
 use Rattle.adapter.specs.Parents.{parents_by}
 use Rattle.adapter.specs.View.{view}
-use Rattle.adapter.proofs.Keeping.{still_shared, same_then, quiet_set}
+use Rattle.adapter.proofs.Keeping.{same_then, quiet_set}
 use Rattle.adapter.proofs.Views.{parents_set, state-≡, reached_by}
 use Rattle.adapter.proofs.state.Adapter.forget.Goals as goal
 use Rattle.adapter.proofs.state.Adapter.forget.Goals.{After-after-self}
@@ -28,18 +27,14 @@ left c =
     ∙ parents_set c.args.self.now.heard (lines_in c.args.self.now.memory) c.args.parent None [])
     refl refl c.empty_backlog.ensures.backlog c.after-self.ensures
 
-pub invariant_of-self : goal.invariant_of-self
-invariant_of-self c =
-    let a = c.args.self.now in
-    let low : c.args.parent < length (vec_items a.config.rates) = c.requires.listed in
-    let shared = still_shared a.config _ _ (shares c) (a.parents, a.size, a.room) in record {
-      places = length-set a.heard c.args.parent None ∙ a.places;
-      parents = shared.0;
-      size = shared.1;
-      room = shared.2;
-      quiet = quiet_set a.heard a.memory _ c.args.parent None [] (omega (arith, a.config.parents.0, a.places)) (lines c) (λ e. refl) a.quiet;
-      reached = reached_by (loss c.args.parent lost) (shares c).entries (loses c.requires refl (left c)) a.reached;
-    }
+pub invariant_of-self-clause-reached : goal.invariant_of-self-clause-reached
+invariant_of-self-clause-reached c = reached_by (loss c.args.parent lost) (shares c).entries (loses c.requires refl (left c)) c.args.self.now.reached
 
 pub returns-clause-after : goal.returns-clause-after
 returns-clause-after c = left (goal.at.returns-clause-after c).After-after-self
+
+pub invariant_of-self-clause-quiet : goal.invariant_of-self-clause-quiet
+invariant_of-self-clause-quiet c =
+    let a = c.args.self.now in
+    let low : c.args.parent < length (vec_items a.config.rates) = c.requires.listed in
+    quiet_set a.heard a.memory _ c.args.parent None [] (omega (arith, a.config.parents.0, a.places)) (lines c) (λ e. refl) a.quiet

@@ -1,5 +1,4 @@
-use Rattle.std.proofs.Common.{◌≡◌, ℕ, set, Some, Ok, Err, Option, sym, refl, ap, ◌∙◌, subst, arith}
-use Rattle.std.proofs.lemmas.List.{length-set}
+use Rattle.std.proofs.Common.{rules, ◌≡◌, ℕ, set, Some, Ok, Err, Option, sym, refl, ap, ◌∙◌, subst, arith}
 use Rattle.std.proofs.lemmas.Result.{err_from_is_err_and}
 use Rattle.memory.specs.Memory.{line_in, room_in}
 use Rattle.psi.specs.Delivery.{deliver, meant}
@@ -15,7 +14,7 @@ use Rattle.adapter.specs.declared.times.Times.{Times}
 use Rattle.adapter.specs.View.{view, setup_of, entries_of}
 use Rattle.adapter.specs.declared.answer.Heard.{Heard}
 use Rattle.adapter.proofs.Hearing.{delivered_good, full_stays, heard_taken, heard_full, has_place, parent_is, line_is, arrives_by, known_by, same_lines, same_state}
-use Rattle.adapter.proofs.Keeping.{still_shared, quiet_same, quiet_set}
+use Rattle.adapter.proofs.Keeping.{quiet_same, quiet_set}
 use Rattle.adapter.proofs.Views.{reached_by}
 use Rattle.adapter.proofs.state.Adapter.hear.Goals as goal
 use Rattle.adapter.proofs.state.Adapter.hear.Goals.{After-stamp, After-keep}
@@ -54,12 +53,11 @@ invariant_of-self c =
     let m = c.keep.new.memory in
     let rest = c.keep.ensures.rest in
     let stays = full_stays _ c.in_err-heard.ensures.rule in
-    let shared = still_shared a.config _ _ rest.shares (a.parents, a.size, a.room) in
     let state = same_state a c.args.parent listed m c.keep.ensures.lines stays rest.backlog in record {
       places = a.places;
-      parents = shared.0;
-      size = shared.1;
-      room = shared.2;
+      parents = search rules;
+      size = search rules;
+      room = search rules;
       quiet = quiet_same a.heard a.memory m (same_lines a c.args.parent listed m c.keep.ensures.lines stays) a.quiet;
       reached = subst (λ n. Reached (setup_of a) n (state_from m a.heard a.records a.step)) (sym rest.shares.entries) (subst (Reached (setup_of a) (entries_of a)) (sym state) a.reached);
     }
@@ -86,19 +84,15 @@ rule c h keeps =
     heard_taken _ _ _ _ _ _ _ _ _ _ _ (arrives c) (maps c) a.room (line_is a c.args.parent listed) h _ keeps
     (known_by a c.args.parent listed c.keep.new.memory c.in-Some.times c.keep.ensures.lines c.keep.ensures.rest.backlog)
 
-pub invariant_of-self-2 : goal.invariant_of-self-2
-invariant_of-self-2 c =
-    let a = c.args.self.now in
-    let k = (goal.at.invariant_of-self-2 c).After-keep in
-    let rest = c.keep.ensures.rest in
-    let shared = still_shared a.config _ _ rest.shares (a.parents, a.size, a.room) in record {
-      places = length-set a.heard c.args.parent (Some c.in-Some.times) ∙ a.places;
-      parents = shared.0;
-      size = shared.1;
-      room = shared.2;
-      quiet = quiet_set a.heard a.memory _ c.args.parent (Some c.in-Some.times) _ (has_place a c.args.parent c.in_ok-listed.ensures) c.keep.ensures.lines (λ e. let z : ◌≡◌ {A = ℕ} 0 1 = cc in absurd (omega arith)) a.quiet;
-      reached = reached_by (hear c.args.parent c.args.packet.now c.args.time (hear_answer (Ok c.in_ok-heard.heard))) rest.shares.entries (rule k c.in_ok-heard.heard c.in_ok-heard.ensures.rule) a.reached;
-    }
+pub invariant_of-self-2-clause-reached : goal.invariant_of-self-2-clause-reached
+invariant_of-self-2-clause-reached c =
+    let k = (goal.at.invariant_of-self-2-clause-reached c).After-keep in
+    reached_by (hear c.args.parent c.args.packet.now c.args.time (hear_answer (Ok c.in_ok-heard.heard))) c.keep.ensures.rest.shares.entries (rule k c.in_ok-heard.heard c.in_ok-heard.ensures.rule) c.args.self.now.reached
 
 pub returns-clause-rule : goal.returns-clause-rule
 returns-clause-rule c = rule (goal.at.returns-clause-rule c).After-keep c.in_ok-heard.heard c.in_ok-heard.ensures.rule
+
+pub invariant_of-self-2-clause-quiet : goal.invariant_of-self-2-clause-quiet
+invariant_of-self-2-clause-quiet c =
+    let a = c.args.self.now in
+    quiet_set a.heard a.memory _ c.args.parent (Some c.in-Some.times) _ (has_place a c.args.parent c.in_ok-listed.ensures) c.keep.ensures.lines (λ e. let z : ◌≡◌ {A = ℕ} 0 1 = cc in absurd (omega arith)) a.quiet

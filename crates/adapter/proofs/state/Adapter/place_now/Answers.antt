@@ -9,7 +9,7 @@ use Rattle.adapter.specs.Placing.{AllWhole, Goes, placed_answer, turns_of_lines}
 use Rattle.adapter.specs.Steps.{adds_in, step_by}
 use Rattle.adapter.specs.View.{view, setup_of, entries_of, hearings_in}
 use Rattle.adapter.specs.declared.step.StepEvent.TheVariants.{Placed}
-use Rattle.adapter.proofs.Keeping.{still_shared, same_then}
+use Rattle.adapter.proofs.Keeping.{same_then}
 use Rattle.adapter.proofs.Placed.{rising_begun, turns_are, parents_left, count_left, placed_rule}
 use Rattle.adapter.proofs.Sounds.{begun_whole, backlog_whole, doubt_low, few}
 use Rattle.adapter.proofs.Standing.{known_all, quiet_restarted, start_low, slots_low, slots_some}
@@ -94,20 +94,15 @@ module _ (g : given.Over) (c : After-after-self g) where
       (goes_means g.C.Carrier.meaning (adds_in a.step) _ _ _ goes)
       left)
 
-pub invariant_of-self : goal.invariant_of-self
-invariant_of-self g c =
-    let a = c.args.self.now in
-    let m₂ = c.place-course.new.memory in
-    let shared = still_shared a.config _ _ (shares g c) (a.parents, a.size, a.room) in record {
-      places = c.restart.ensures.many ∙ a.places;
-      parents = shared.0;
-      size = shared.1;
-      room = shared.2;
-      quiet =
-          quiet_restarted _ (length (lines_in a.memory)) a.heard c.restart.new.heard m₂ c.restart.ensures (known_all a (hearings_in a) c.requires.placeable_now.due.called.anchored)
-          (let same = count_left a c.args.frame c.requires.placeable_now.rest c.requires.placeable_now.due c.begin-doubt.new.memory m₂ c.begin-doubt.ensures.lines c.place-course.ensures.placed.lines in omega arith);
-      reached = reached_by (framed _ _ _) (shares g c).entries (rule g c) a.reached;
-    }
+pub invariant_of-self-clause-reached : goal.invariant_of-self-clause-reached
+invariant_of-self-clause-reached g c = reached_by (framed _ _ _) (shares g c).entries (rule g c) c.args.self.now.reached
 
 pub returns-clause-rule : goal.returns-clause-rule
 returns-clause-rule g c = rule g (goal.at.returns-clause-rule g c).After-after-self
+
+pub invariant_of-self-clause-quiet : goal.invariant_of-self-clause-quiet
+invariant_of-self-clause-quiet g c =
+    let a = c.args.self.now in
+    let m₂ = c.place-course.new.memory in
+    quiet_restarted _ (length (lines_in a.memory)) a.heard c.restart.new.heard m₂ c.restart.ensures (known_all a (hearings_in a) c.requires.placeable_now.due.called.anchored)
+    (let same = count_left a c.args.frame c.requires.placeable_now.rest c.requires.placeable_now.due c.begin-doubt.new.memory m₂ c.begin-doubt.ensures.lines c.place-course.ensures.placed.lines in omega arith)

@@ -9,7 +9,7 @@ use Rattle.adapter.specs.Fields.{state_from}
 use Rattle.adapter.specs.Parents.{parents_by}
 use Rattle.adapter.specs.View.{view, hearings_in}
 use Rattle.adapter.proofs.Anchored.{restarted_heard}
-use Rattle.adapter.proofs.Keeping.{still_shared, same_then}
+use Rattle.adapter.proofs.Keeping.{same_then}
 use Rattle.adapter.proofs.Standing.{places_suffice, known_all, quiet_restarted}
 use Rattle.adapter.proofs.Views.{state-≡, reached_by}
 use Rattle.adapter.proofs.state.Adapter.skip.Goals as goal
@@ -37,24 +37,18 @@ left c =
     c.empty_backlog.ensures.backlog
     c.after-self.ensures
 
-pub invariant_of-self : goal.invariant_of-self
-invariant_of-self c =
-    let a = c.args.self.now in
-    let hs = hearings_in a in
-    let shared = still_shared a.config _ _ (shares c) (a.parents, a.size, a.room) in
-    let empty : Meaning = record { packets = []; free = 0; capacity = 0 } in record {
-      places = c.restart.ensures.many ∙ a.places;
-      parents = shared.0;
-      size = shared.1;
-      room = shared.2;
-      quiet =
-          quiet_restarted c.args.since (length (lines_in a.memory)) a.heard c.restart.new.heard c.empty_backlog.new.self c.restart.ensures
-          (known_all a hs c.requires.called.anchored)
-          (let same = ap length (lines c) ∙ length-map (lines_in a.memory) (from_on c.args.since) in omega arith);
-      reached =
-          reached_by (framed empty (skipped c.requires.frame.number) empty) (shares c).entries
-          (skips c.requires.frame c.requires.rest hs c.requires.called c.requires.early refl (left c) refl) a.reached;
-    }
+pub invariant_of-self-clause-reached : goal.invariant_of-self-clause-reached
+invariant_of-self-clause-reached c =
+    let empty : Meaning = record { packets = []; free = 0; capacity = 0 } in
+    reached_by (framed empty (skipped c.requires.frame.number) empty) (shares c).entries
+    (skips c.requires.frame c.requires.rest (hearings_in c.args.self.now) c.requires.called c.requires.early refl (left c) refl) c.args.self.now.reached
 
 pub returns-clause-after : goal.returns-clause-after
 returns-clause-after c = left (goal.at.returns-clause-after c).After-after-self
+
+pub invariant_of-self-clause-quiet : goal.invariant_of-self-clause-quiet
+invariant_of-self-clause-quiet c =
+    let a = c.args.self.now in
+    quiet_restarted c.args.since (length (lines_in a.memory)) a.heard c.restart.new.heard c.empty_backlog.new.self c.restart.ensures
+    (known_all a (hearings_in a) c.requires.called.anchored)
+    (let same = ap length (lines c) ∙ length-map (lines_in a.memory) (from_on c.args.since) in omega arith)
