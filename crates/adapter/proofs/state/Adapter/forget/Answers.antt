@@ -27,14 +27,14 @@ left c =
     ∙ parents_set c.args.self.now.heard (lines_in c.args.self.now.memory) c.args.parent None [])
     refl refl c.empty_backlog.ensures.backlog c.after-self.ensures
 
-pub invariant_of-self-clause-reached : goal.invariant_of-self-clause-reached
-invariant_of-self-clause-reached c = reached_by (loss c.args.parent lost) (shares c).entries (loses c.requires refl (left c)) c.args.self.now.reached
-
-pub returns-clause-after : goal.returns-clause-after
-returns-clause-after c = left (goal.at.returns-clause-after c).After-after-self
-
 pub invariant_of-self-clause-quiet : goal.invariant_of-self-clause-quiet
 invariant_of-self-clause-quiet c =
     let a = c.args.self.now in
     let low : c.args.parent < length (vec_items a.config.rates) = c.requires.listed in
     quiet_set a.heard a.memory _ c.args.parent None [] (omega (arith, a.config.parents.0, a.places)) (lines c) (λ e. refl) a.quiet
+
+pub invariant_of-self-clause-reached : goal.invariant_of-self-clause-reached
+invariant_of-self-clause-reached c = reached_by (loss c.args.parent lost) (shares c).entries (loses c.requires refl (left c)) c.args.self.now.reached
+
+pub returns-clause-after : goal.returns-clause-after
+returns-clause-after c = left (goal.at.returns-clause-after c).After-after-self

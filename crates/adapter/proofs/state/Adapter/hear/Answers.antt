@@ -84,6 +84,11 @@ rule c h keeps =
     heard_taken _ _ _ _ _ _ _ _ _ _ _ (arrives c) (maps c) a.room (line_is a c.args.parent listed) h _ keeps
     (known_by a c.args.parent listed c.keep.new.memory c.in-Some.times c.keep.ensures.lines c.keep.ensures.rest.backlog)
 
+pub invariant_of-self-2-clause-quiet : goal.invariant_of-self-2-clause-quiet
+invariant_of-self-2-clause-quiet c =
+    let a = c.args.self.now in
+    quiet_set a.heard a.memory _ c.args.parent (Some c.in-Some.times) _ (has_place a c.args.parent c.in_ok-listed.ensures) c.keep.ensures.lines (λ e. let z : ◌≡◌ {A = ℕ} 0 1 = cc in absurd (omega arith)) a.quiet
+
 pub invariant_of-self-2-clause-reached : goal.invariant_of-self-2-clause-reached
 invariant_of-self-2-clause-reached c =
     let k = (goal.at.invariant_of-self-2-clause-reached c).After-keep in
@@ -91,8 +96,3 @@ invariant_of-self-2-clause-reached c =
 
 pub returns-clause-rule : goal.returns-clause-rule
 returns-clause-rule c = rule (goal.at.returns-clause-rule c).After-keep c.in_ok-heard.heard c.in_ok-heard.ensures.rule
-
-pub invariant_of-self-2-clause-quiet : goal.invariant_of-self-2-clause-quiet
-invariant_of-self-2-clause-quiet c =
-    let a = c.args.self.now in
-    quiet_set a.heard a.memory _ c.args.parent (Some c.in-Some.times) _ (has_place a c.args.parent c.in_ok-listed.ensures) c.keep.ensures.lines (λ e. let z : ◌≡◌ {A = ℕ} 0 1 = cc in absurd (omega arith)) a.quiet

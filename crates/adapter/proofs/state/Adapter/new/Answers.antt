@@ -29,12 +29,12 @@ none_waits zero p = refl
 none_waits (suc n) zero = refl
 none_waits (suc n) (suc p) = none_waits n p
 
+pub invariant_of-result-clause-quiet : goal.invariant_of-result-clause-quiet
+unfolding line_in
+invariant_of-result-clause-quiet c = λ p silent. ap (λ l. length (get_or l p [])) c.new-memory.ensures.lines ∙ none_waits _ p
+
 pub invariant_of-result-clause-reached : goal.invariant_of-result-clause-reached
 invariant_of-result-clause-reached c = subst (Reached (setup c.args.config) (entries_in c.new-memory.result)) (sym (powered c)) ∣ ([], begins) ∣₁
 
 pub returns-clause-powered : goal.returns-clause-powered
 returns-clause-powered c = powered (goal.at.returns-clause-powered c).After-new
-
-pub invariant_of-result-clause-quiet : goal.invariant_of-result-clause-quiet
-unfolding line_in
-invariant_of-result-clause-quiet c = λ p silent. ap (λ l. length (get_or l p [])) c.new-memory.ensures.lines ∙ none_waits _ p

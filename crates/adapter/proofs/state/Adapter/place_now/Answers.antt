@@ -94,15 +94,15 @@ module _ (g : given.Over) (c : After-after-self g) where
       (goes_means g.C.Carrier.meaning (adds_in a.step) _ _ _ goes)
       left)
 
-pub invariant_of-self-clause-reached : goal.invariant_of-self-clause-reached
-invariant_of-self-clause-reached g c = reached_by (framed _ _ _) (shares g c).entries (rule g c) c.args.self.now.reached
-
-pub returns-clause-rule : goal.returns-clause-rule
-returns-clause-rule g c = rule g (goal.at.returns-clause-rule g c).After-after-self
-
 pub invariant_of-self-clause-quiet : goal.invariant_of-self-clause-quiet
 invariant_of-self-clause-quiet g c =
     let a = c.args.self.now in
     let m₂ = c.place-course.new.memory in
     quiet_restarted _ (length (lines_in a.memory)) a.heard c.restart.new.heard m₂ c.restart.ensures (known_all a (hearings_in a) c.requires.placeable_now.due.called.anchored)
     (let same = count_left a c.args.frame c.requires.placeable_now.rest c.requires.placeable_now.due c.begin-doubt.new.memory m₂ c.begin-doubt.ensures.lines c.place-course.ensures.placed.lines in omega arith)
+
+pub invariant_of-self-clause-reached : goal.invariant_of-self-clause-reached
+invariant_of-self-clause-reached g c = reached_by (framed _ _ _) (shares g c).entries (rule g c) c.args.self.now.reached
+
+pub returns-clause-rule : goal.returns-clause-rule
+returns-clause-rule g c = rule g (goal.at.returns-clause-rule g c).After-after-self

@@ -17,6 +17,9 @@ invariant_of-self-then-precede-clause-reached c =
     c.queue.ensures.test c.queue.ensures.waits c.queue.ensures.last in
     reached_by (recorded f (cond (is_ok c.queue.result) queued (refused_record 11))) refl rule a.reached
 
+pub invariant_of-self-2-clause-quiet : goal.invariant_of-self-2-clause-quiet
+invariant_of-self-2-clause-quiet c = quiet_same c.args.self.now.heard c.args.self.now.memory _ c.empty_backlog.ensures.rest.lines c.args.self.now.quiet
+
 pub invariant_of-self-2-clause-reached : goal.invariant_of-self-2-clause-reached
 invariant_of-self-2-clause-reached c =
     let f : Frame = record { number = c.args.number; start = c.args.start; slots = c.args.slots } in
@@ -25,6 +28,3 @@ invariant_of-self-2-clause-reached c =
     (λ follows. never c.precede.result (c.precede.ensures.1 follows) c.if-precede.false)
     refl (state-≡ (ap (parents_by c.args.self.now.heard) rest.lines) c.renew.ensures.waits c.renew.ensures.last c.empty_backlog.ensures.backlog c.after-self.ensures) in
     reached_by (recorded f anew) rest.shares.entries rule c.args.self.now.reached
-
-pub invariant_of-self-2-clause-quiet : goal.invariant_of-self-2-clause-quiet
-invariant_of-self-2-clause-quiet c = quiet_same c.args.self.now.heard c.args.self.now.memory _ c.empty_backlog.ensures.rest.lines c.args.self.now.quiet

@@ -37,6 +37,13 @@ left c =
     c.empty_backlog.ensures.backlog
     c.after-self.ensures
 
+pub invariant_of-self-clause-quiet : goal.invariant_of-self-clause-quiet
+invariant_of-self-clause-quiet c =
+    let a = c.args.self.now in
+    quiet_restarted c.args.since (length (lines_in a.memory)) a.heard c.restart.new.heard c.empty_backlog.new.self c.restart.ensures
+    (known_all a (hearings_in a) c.requires.called.anchored)
+    (let same = ap length (lines c) ∙ length-map (lines_in a.memory) (from_on c.args.since) in omega arith)
+
 pub invariant_of-self-clause-reached : goal.invariant_of-self-clause-reached
 invariant_of-self-clause-reached c =
     let empty : Meaning = record { packets = []; free = 0; capacity = 0 } in
@@ -45,10 +52,3 @@ invariant_of-self-clause-reached c =
 
 pub returns-clause-after : goal.returns-clause-after
 returns-clause-after c = left (goal.at.returns-clause-after c).After-after-self
-
-pub invariant_of-self-clause-quiet : goal.invariant_of-self-clause-quiet
-invariant_of-self-clause-quiet c =
-    let a = c.args.self.now in
-    quiet_restarted c.args.since (length (lines_in a.memory)) a.heard c.restart.new.heard c.empty_backlog.new.self c.restart.ensures
-    (known_all a (hearings_in a) c.requires.called.anchored)
-    (let same = ap length (lines c) ∙ length-map (lines_in a.memory) (from_on c.args.since) in omega arith)
