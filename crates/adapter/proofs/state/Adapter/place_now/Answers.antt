@@ -1,5 +1,5 @@
-use Rattle.std.proofs.Common.{◌≡◌, ◌+◌, ◌≤◌, List, length, drop, vec_items, sym, ap, ◌∙◌, subst, arith}
-use Rattle.memory.specs.Memory.{lines_in, backlog_in, entries_in, SameShares}
+use Rattle.std.proofs.Common.{rules, ◌≡◌, ◌+◌, List, length, drop, sym, ap, ◌∙◌, subst, arith}
+use Rattle.memory.specs.Memory.{lines_in, backlog_in, SameShares}
 use Rattle.psi.specs.Packet.{Bytes}
 use Rattle.rules.specs.Calls.{Frames, placed}
 use Rattle.rules.specs.Log.{framed}
@@ -31,15 +31,14 @@ place-course-requires g c =
     let due = c.requires.placeable_now.due in
     let first = due.called.oldest in
     let m₁ = c.begin-doubt.new.memory in
-    let e = c.begin-doubt.ensures in
-    let roomy : a.config.settings.backlog + length (vec_items a.config.rates) ≤ entries_in a.memory = due.called.roomy in record {
-      shared = e.rest.shares.size ∙ a.size ∙ omega arith;
-      lines_in_order = lines_in_order (lines_in m₁) (rising_begun a f c.requires.placeable_now.rest due m₁ m₁ e.lines);
+    let e = c.begin-doubt.ensures in record {
+      shared = search rules;
+      lines_in_order = lines_in_order _ (rising_begun a f _ due m₁ m₁ e.lines);
       few_wait = few a m₁ e.rest.shares;
       all_whole = (begun_whole a (hearings_in a) f m₁ due.called.anchored e.lines, subst AllWhole (sym e.rest.backlog) (backlog_whole a));
-      frame_in_range = (slots_some a f c.requires.placeable_now.rest first, slots_low a f c.requires.placeable_now.rest first, start_low a f c.requires.placeable_now.rest first);
+      frame_in_range = (slots_some a f _ first, slots_low a f _ first, start_low a f _ first);
       doubt_within = omega (arith, e.doubt, doubt_low a);
-      places_free = λ adding. c.requires.places_free (sym c.adds-adding.ensures ∙ adding);
+      places_free = search rules;
     }
 
 module _ (g : given.Over) (c : After-after-self g) where
