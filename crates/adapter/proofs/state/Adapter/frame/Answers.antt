@@ -1,9 +1,8 @@
-use Rattle.std.proofs.Common.{Ok, sym, refl, ap, ◌∙◌, subst, arith}
+use Rattle.std.proofs.Common.{sym, refl, ap, ◌∙◌, arith}
 use Rattle.std.proofs.lemmas.Result.{err_from_is_err_and}
 use Rattle.rules.specs.Calls as calls
 use Rattle.rules.specs.Calls.{Frames, crowded}
-use Rattle.adapter.specs.Placing.{placed_answer}
-use Rattle.adapter.specs.View.{view, setup_of, entries_of, hearings_in, DueSo}
+use Rattle.adapter.specs.View.{view, setup_of, entries_of, hearings_in}
 use Rattle.adapter.proofs.Placed.{clear_holds, equal_holds, held_up, skips_so, in_step_is}
 use Rattle.adapter.proofs.state.Adapter.frame.Goals as goal
 
@@ -18,7 +17,7 @@ returns-in_err-number g c =
 pub returns-in-Skips : goal.returns-in-Skips
 returns-in-Skips g c =
     let a = c.args.self.now in
-    let due = subst (λ d. DueSo a (Ok d)) c.in-Skips.is c.in_ok-number.ensures in
+    let due = rw c.in-Skips.is at c.in_ok-number.ensures in
     let rule = skips_so a (g.C.Carrier.meaning c.args.carrier.now) c.in-Skips.number c.in-Skips.since (view c.skip.new.self) due.0 due.1 c.skip.ensures.after in
     record { rule = rule; same = c.skip.ensures.same; untouched = refl; clear = clear_holds a _ _ _ _ rule; equal = equal_holds a _ _ _ _ rule }
 
@@ -26,7 +25,7 @@ pub returns-then-free-frame : goal.returns-then-free-frame
 returns-then-free-frame g c =
     let a = c.args.self.now in
     let k = (g.C.Carrier.meaning c.args.carrier.now) in
-    let due = subst (λ d. DueSo a (Ok d)) c.in-Places.is c.in_ok-number.ensures in
+    let due = rw c.in-Places.is at c.in_ok-number.ensures in
     let rule : Frames (setup_of a) (entries_of a) (view a) k (calls.refused_frame 14) (view a) k =
     crowded c.in-Places.frame due.rest (hearings_in a) due.due (in_step_is a.step (sym c.adds-adding.ensures ∙ c.if-adding.true)) (omega (arith, c.free.ensures, ap (λ f. f.slots) c.frame.view_is)) refl refl refl in
     record { rule = rule; same = record { config = refl; entries = refl }; untouched = refl; clear = clear_holds a _ _ _ _ rule; equal = equal_holds a _ _ _ _ rule }
@@ -35,14 +34,12 @@ pub returns-then-adding-2 : goal.returns-then-adding-2
 returns-then-adding-2 g c =
     let a = c.args.self.now in
     let adds = sym c.adds-adding.ensures ∙ c.if-adding-2.true in
-    let rule = subst (λ b. Frames (setup_of a) (entries_of a) (view a) (g.C.Carrier.meaning c.args.carrier.now) (placed_answer b c.place_now-number.result.0 c.place_now-number.result.1) (view c.place_now-number.new.self) (g.C.Carrier.meaning c.place_now-number.new.carrier)) adds
-    c.place_now-number.ensures.rule in
+    let rule = rw adds at c.place_now-number.ensures.rule in
     record { rule = rule; same = c.place_now-number.ensures.same; untouched = tt; clear = clear_holds a _ _ _ _ rule; equal = equal_holds a _ _ _ _ rule }
 
 pub returns-else-adding-2 : goal.returns-else-adding-2
 returns-else-adding-2 g c =
     let a = c.args.self.now in
     let adds = sym c.adds-adding.ensures ∙ c.if-adding-2.false in
-    let rule = subst (λ b. Frames (setup_of a) (entries_of a) (view a) (g.C.Carrier.meaning c.args.carrier.now) (placed_answer b c.place_now-number.result.0 c.place_now-number.result.1) (view c.place_now-number.new.self) (g.C.Carrier.meaning c.place_now-number.new.carrier)) adds
-    c.place_now-number.ensures.rule in
+    let rule = rw adds at c.place_now-number.ensures.rule in
     record { rule = rule; same = c.place_now-number.ensures.same; untouched = c.place_now-number.ensures.kept adds; clear = clear_holds a _ _ _ _ rule; equal = equal_holds a _ _ _ _ rule }
