@@ -20,9 +20,8 @@ made c found is =
     ap (λ f. Some (by_row c.args.rows.now c.args.packet.now f)) (sym is ∙ c.find_row.ensures ∙ ap (find_row c.args.rows.now c.args.parent) (known c).pid)
     ∙ sym (cond-true _ _ None (known c).good)
 
-pub returns-in_default : goal.returns-in_default
-returns-in_default c =
-    told c.args.rows.now c.args.parent c.args.packet.now (Some unmapped) (made (goal.at.returns-in_default c).After-find_row None c.in_default.is)
+pub returns-in_default-clause-value : goal.returns-in_default-clause-value
+returns-in_default-clause-value c = made (goal.at.returns-in_default-clause-value c).After-find_row None c.in_default.is
 
 pub returns-in-Some-left : goal.returns-in-Some-left
 returns-in-Some-left c =
@@ -36,8 +35,8 @@ returns-in-Some-left c =
     told c.args.rows.now c.args.parent c.args.packet.now _
     (ap Some (ap (by_patch number) (sym c.in-Some-left.is) ∙ sym left) ∙ made (goal.at.returns-in-Some-left c).After-find_row (Some (number, c.in-Some.row)) c.in-Some.is)
 
-pub returns-in-None : goal.returns-in-None
-returns-in-None c =
+pub returns-in-None-clause-value : goal.returns-in-None-clause-value
+returns-in-None-clause-value c =
     let number = c.in-Some.number in
     let of-kind = by_kind c.args.rows.now number c.in-Some.row c.args.packet.now in
     let left : of-kind c.in-Some.row.kind ≡ by_patch number c.match-row.left =
@@ -45,5 +44,4 @@ returns-in-None c =
       | in-Pass w ↦ ap of-kind w.in-Pass.is ∙ ap (by_patch number) (sym (w.left-is ∙ ap Some w.changed.ensures))
       | in-Pmt w ↦ ap of-kind w.in-Pmt.is ∙ ap (by_patch number) (sym (w.left-is ∙ w.patch-left.ensures.value))
     ] in
-    told c.args.rows.now c.args.parent c.args.packet.now _
-    (ap Some (ap (by_patch number) (sym c.in-None.is) ∙ sym left) ∙ made (goal.at.returns-in-None c).After-find_row (Some (number, c.in-Some.row)) c.in-Some.is)
+    ap Some (ap (by_patch number) (sym c.in-None.is) ∙ sym left) ∙ made (goal.at.returns-in-None-clause-value c).After-find_row (Some (number, c.in-Some.row)) c.in-Some.is

@@ -5,21 +5,10 @@ use Rattle.psi.specs.Packet.{payload_only}
 use Rattle.psi.proofs.Packets.{Headed, headed, good_parts}
 use Rattle.psi.proofs.Shapes.{Opens, opens_from, opens_not, is_payload, not_payload}
 use Rattle.psi.proofs.pmt.opened.Goals as goal
-use Rattle.psi.proofs.pmt.opened.Goals.{In_ok-head, then-not-head-via-then-not-head, then-not-head-via-else-not-head+then-head-ne0, then-not-head-via-else-not-head+else-head-ne0+then-ne}
+use Rattle.psi.proofs.pmt.opened.Goals.{In_ok-head}
 
 known : (c : In_ok-head) → Headed c.args.packet.now c.in_ok-head.head
 known c = headed c.args.packet.now c.in_ok-head.head c.in_ok-head.ensures
-
-pub returns-then-not-head : goal.returns-then-not-head
-returns-then-not-head c =
-    let h = known (goal.at.returns-then-not-head c).In_ok-head in
-    opens_not c.args.packet.now
-    (λ o.
-    elim c.then-not-head.branch [
-      | then-not-head-via-then-not-head w ↦ both_ways _ w.if-not-head.true (h.start ∙ o.start)
-      | then-not-head-via-else-not-head+then-head-ne0 w ↦ w.if-head-ne0.true (h.scrambling ∙ o.clear)
-      | then-not-head-via-else-not-head+else-head-ne0+then-ne w ↦ both_ways _ (ap payload_only (sym h.adaptation) ∙ not_payload _ (sym w.ne.ensures ∙ w.if-ne.true)) o.payload
-    ])
 
 pub returns : goal.returns
 returns c =

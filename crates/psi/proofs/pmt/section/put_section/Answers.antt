@@ -7,8 +7,8 @@ use Rattle.psi.specs.Pmt.{stream_part, streams_of, info_length, no_pcr, StreamsW
 use Rattle.psi.proofs.Shapes.{section_shape, section_from}
 use Rattle.psi.proofs.pmt.section.put_section.Goals as goal
 
-pub returns : goal.returns
-returns c =
+pub returns-clause-written : goal.returns-clause-written
+returns-clause-written c =
     let s = c.args.section.now in
     let row = c.args.row.now in
     let rows = c.args.rows.now in
@@ -24,16 +24,6 @@ returns c =
     let before : written c.put_all-3.new.self ≡ ((w ++ (0x02 ∷ byte s 1 ∷ byte s 2 ∷ get_or c.to_be_bytes.result 0 0 ∷ get_or c.to_be_bytes.result 1 0 ∷ byte s 5 ∷ 0x00 ∷ 0x00 ∷ [])) ++ (pid_high (byte s 8) c.unwrap_or-pcr_out.result ∷ c.unwrap_or-pcr_out.result % 0x100 ∷ byte s 10 ∷ byte s 11 ∷ [])) ++ take n (drop 12 s) =
     c.put_all-3.ensures.written
     ∙ (λ i. (c.put_all-2.ensures.written ∙ (λ j. c.put_all.ensures.written j ++ (get_or (out j) 0 0 ∷ get_or (out j) 1 0 ∷ byte s 10 ∷ byte s 11 ∷ []))) i ++ info i) in
-    let info-long : length c.split_at.result.0.now ≡ n = ap length info ∙ length-take-le n (drop 12 s) (simp length-drop (omega (arith, c.requires.0))) in
-    let streams-long = ap length streams ∙ length-drop (12 + n) s in
-    let l1 = c.put_all.ensures.len in
-    let l2 = c.put_all-2.ensures.len in
-    let l3 = c.put_all-3.ensures.len in
-    let l4 = c.put_streams.ensures.len in
-    record {
-      written =
-          section_from rows row (written c.put_all-3.new.self) (written c.put_streams.new.place) w s c.put_streams.result (streams_of (stream_part s))
-          (subst (λ (l : Bytes). StreamsWritten rows row.parent (written c.put_all-3.new.self) (streams_of l) (written c.put_streams.new.place) c.put_streams.result) streams c.put_streams.ensures.written)
-          (λ es. section_shape rows row w s _ _ _ _ es before (ap (λ (l : Bytes). get_or l 0 0) service) (ap (λ (l : Bytes). get_or l 1 0) service) pcr c.requires.0 (c.type_inv.section 11).fits);
-      len = (omega (arith, l4.0), omega (arith, l4.1, c.requires.0));
-    }
+    section_from rows row (written c.put_all-3.new.self) (written c.put_streams.new.place) w s c.put_streams.result (streams_of (stream_part s))
+    (subst (λ (l : Bytes). StreamsWritten rows row.parent (written c.put_all-3.new.self) (streams_of l) (written c.put_streams.new.place) c.put_streams.result) streams c.put_streams.ensures.written)
+    (λ es. section_shape rows row w s _ _ _ _ es before (ap (λ (l : Bytes). get_or l 0 0) service) (ap (λ (l : Bytes). get_or l 1 0) service) pcr c.requires.0 (c.type_inv.section 11).fits)

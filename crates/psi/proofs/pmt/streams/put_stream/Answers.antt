@@ -5,16 +5,12 @@ use Rattle.psi.specs.Places.{written}
 use Rattle.psi.proofs.Entries.{with_pid_front}
 use Rattle.psi.proofs.pmt.streams.put_stream.Goals as goal
 
-pub returns : goal.returns
-returns c =
+pub returns-clause-written : goal.returns-clause-written
+returns-clause-written c =
     let s = c.args.stream.now in
     let w = written c.args.place.now in
-    record {
-      written =
-          c.put_all-2.ensures.written
-          ∙ (λ i. c.put_all.ensures.written i ++ take_rest s 3 i)
-          ∙ (λ i. (w ++ (byte s 0 ∷ get_or (c.with_number.ensures i) 0 0 ∷ get_or (c.with_number.ensures i) 1 0 ∷ [])) ++ drop 3 s)
-          ∙ append_assoc w _ (drop 3 s)
-          ∙ ap (λ (l : Bytes). w ++ l) (with_pid_front s c.args.pid (omega (arith, c.requires.0)));
-      len = c.put_all-2.ensures.len ∙ (let l = c.put_all.ensures.len in simp (take_rest, length-drop) (omega (arith, c.requires.0)));
-    }
+    c.put_all-2.ensures.written
+    ∙ (λ i. c.put_all.ensures.written i ++ take_rest s 3 i)
+    ∙ (λ i. (w ++ (byte s 0 ∷ get_or (c.with_number.ensures i) 0 0 ∷ get_or (c.with_number.ensures i) 1 0 ∷ [])) ++ drop 3 s)
+    ∙ append_assoc w _ (drop 3 s)
+    ∙ ap (λ (l : Bytes). w ++ l) (with_pid_front s c.args.pid (omega (arith, c.requires.0)))

@@ -10,20 +10,14 @@ use Rattle.psi.proofs.Entries.{adds, streams_none, one_moved, one_gone, ended_wr
 use Rattle.psi.proofs.pmt.streams.put_streams.Goals as goal
 use Rattle.psi.proofs.pmt.streams.put_streams.Goals.{After-out_of, After-split_stream}
 
-pub loop-rest-init : goal.loop-rest-init
-loop-rest-init c = (omega arith, omega arith, (λ i. (c.type_inv.bytes i).fits), refl)
-
 some : (c : After-split_stream) → 0 < length c.loop-rest.rest.now
 some c = omega (arith, eqb-false (length c.loop-rest.rest.now) 0 (sym c.loop-rest-test.ensures))
 
-pub returns-in_err-stream : goal.returns-in_err-stream
-returns-in_err-stream c =
-    let p = c.args.place.now in
-    let none = streams_none c.loop-rest.rest.now (some (goal.at.returns-in_err-stream c).After-split_stream) c.in_err-stream.ensures in
-    record {
-      written = subst (StreamsWritten c.args.rows.now c.args.parent (written p) (streams_of c.args.bytes.now) (written c.loop-rest.place)) (sym c.from_residual.ensures) (ended_wrong c.args.rows.now c.args.parent (written p) _ _ (sym c.loop-rest.invariant.3 ∙ ap (option_map (adds c.args.rows.now c.args.parent (written c.loop-rest.place))) none));
-      len = (c.loop-rest.invariant.0, omega (arith, c.loop-rest.invariant.1));
-    }
+pub returns-in_err-stream-clause-written : goal.returns-in_err-stream-clause-written
+returns-in_err-stream-clause-written c =
+    let p = written c.args.place.now in
+    let none = streams_none c.loop-rest.rest.now (some (goal.at.returns-in_err-stream-clause-written c).After-split_stream) c.in_err-stream.ensures in
+    subst (StreamsWritten c.args.rows.now c.args.parent p (streams_of c.args.bytes.now) (written c.loop-rest.place)) (sym c.from_residual.ensures) (ended_wrong c.args.rows.now c.args.parent p _ _ (sym c.loop-rest.invariant.3 ∙ ap (option_map (adds c.args.rows.now c.args.parent (written c.loop-rest.place))) none))
 
 -- the row that was looked for is the row of the first stream
 looked : (c : After-out_of) → c.out_of.result ≡ out_of c.args.rows.now c.args.parent (pid_in (byte c.loop-rest.rest.now 1) (byte c.loop-rest.rest.now 2))
@@ -49,9 +43,6 @@ small c i =
     let rest = c.loop-rest.rest.now in
     subst (λ n. n < 0x100) (sym (ap (λ (s : Bytes). get_or s i 0) c.in_ok-stream.ensures.2 ∙ get_or-drop (stream_length rest) rest i 0)) (c.loop-rest.invariant.2 (stream_length rest + i))
 
-pub loop-rest-smaller-in-Some : goal.loop-rest-smaller-in-Some
-loop-rest-smaller-in-Some c = let l = (shorter (goal.at.loop-rest-smaller-in-Some c).After-out_of).1 in omega arith
-
 pub loop-rest-preserved-in-Some : goal.loop-rest-preserved-in-Some
 loop-rest-preserved-in-Some c =
     let d = (goal.at.loop-rest-preserved-in-Some c).After-out_of in
@@ -69,9 +60,6 @@ loop-rest-preserved-in-Some c =
           (c.put_stream.ensures.written ∙ ap (λ (s : Bytes). written c.loop-rest.place ++ with_pid c.in-Some.out s) told.1),
     )
 
-pub loop-rest-smaller : goal.loop-rest-smaller
-loop-rest-smaller c = let l = (shorter (goal.at.loop-rest-smaller c).After-out_of).1 in omega arith
-
 pub loop-rest-preserved : goal.loop-rest-preserved
 loop-rest-preserved c =
     let d = (goal.at.loop-rest-preserved c).After-out_of in
@@ -87,15 +75,11 @@ loop-rest-preserved c =
           ∙ one_gone rows c.args.parent (written c.loop-rest.place) rest _ (some (goal.at.loop-rest-preserved c).After-split_stream) told.0 inv.3 (sym (looked d) ∙ c.in_default.is),
     )
 
-pub returns : goal.returns
+pub returns-clause-written : goal.returns-clause-written
 unfolding streams_of
-returns c =
+returns-clause-written c =
     let w = written c.loop-rest.place in
     let rows = c.args.rows.now in
     let empty = nil_from_length c.loop-rest.rest.now (eqb-true (length c.loop-rest.rest.now) 0 (sym c.loop-rest-test.ensures)) in
-    record {
-      written =
-          ended_right rows c.args.parent (written c.args.place.now) w (streams_of c.args.bytes.now)
-          (sym c.loop-rest.invariant.3 ∙ ap (λ (s : Bytes). option_map (adds rows c.args.parent w) (streams_of s)) empty ∙ ap Some (append-nil w));
-      len = (c.loop-rest.invariant.0, omega (arith, c.loop-rest.invariant.1));
-    }
+    ended_right rows c.args.parent (written c.args.place.now) w (streams_of c.args.bytes.now)
+    (sym c.loop-rest.invariant.3 ∙ ap (λ (s : Bytes). option_map (adds rows c.args.parent w) (streams_of s)) empty ∙ ap Some (append-nil w))
