@@ -5,7 +5,7 @@ use Rattle.std.proofs.Common.{◌≡◌, ℕ, suc, ◌+◌, ◌-◌, ◌/◌, �
 use Rattle.std.specs.List.{flat_map}
 use Rattle.std.specs.Option.{option_map}
 use Rattle.std.proofs.lemmas.List.{length-take-le, get_or-take}
-use Rattle.std.proofs.lemmas.Bool.{and_parts, and_from, eqb-true, eq-eqb, leb-true, le-leb, cond-true, cond-false, both_ways, cases_Bool, false≢true}
+use Rattle.std.proofs.lemmas.Bool.{and_parts, and_from, eqb-true, eq-eqb, leb-true, le-leb, cond-true, cond-false, both_ways, cases_Bool}
 use Rattle.config.specs.declared.row.Row.{Row}
 use Rattle.psi.specs.Lookup.{out_of}
 use Rattle.psi.specs.Packet.{Bytes, byte, good_packet, start_of, scrambling_of, adaptation_in, adaptation_of, payload_only, pid_in, pid_byte, pid_high, filled}
@@ -128,12 +128,6 @@ is_payload Reserved e = absurd (true≢false e)
 is_payload Payload e = refl
 is_payload Field e = absurd (true≢false e)
 is_payload Both e = absurd (true≢false e)
-
-pub not_payload : (a : Adaptation) → not (sameb the_type a Payload) ≡ true → payload_only a ≡ false
-not_payload Reserved e = refl
-not_payload Payload e = absurd (false≢true e)
-not_payload Field e = refl
-not_payload Both e = refl
 
 -- a packet in which a section starts behind the pointer
 pub record Opens (x : Bytes) : Type 0 where

@@ -1,7 +1,7 @@
 use Rattle.std.proofs.Common.{◌≡◌, ℕ, cond, Some, None, Option, sym, ap, ◌∙◌}
 use Rattle.std.proofs.lemmas.Bool.{cond-true}
 use Rattle.config.specs.declared.row.Row.{Row}
-use Rattle.psi.specs.Delivery.{unmapped, by_patch, by_kind, by_row, deliver_by}
+use Rattle.psi.specs.Delivery.{by_patch, by_kind, by_row, deliver_by}
 use Rattle.psi.specs.Lookup.{find_row}
 use Rattle.psi.specs.Packet.{good_packet}
 use Rattle.psi.proofs.Deliveries.{told}

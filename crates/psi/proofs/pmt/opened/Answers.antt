@@ -1,9 +1,8 @@
 use Rattle.std.proofs.Common.{sym, ap, ◌∙◌, arith}
 use Rattle.std.proofs.lemmas.List.{take_rest}
-use Rattle.std.proofs.lemmas.Bool.{both_ways}
 use Rattle.psi.specs.Packet.{payload_only}
 use Rattle.psi.proofs.Packets.{Headed, headed, good_parts}
-use Rattle.psi.proofs.Shapes.{Opens, opens_from, opens_not, is_payload, not_payload}
+use Rattle.psi.proofs.Shapes.{Opens, opens_from, is_payload}
 use Rattle.psi.proofs.pmt.opened.Goals as goal
 use Rattle.psi.proofs.pmt.opened.Goals.{In_ok-head}
 

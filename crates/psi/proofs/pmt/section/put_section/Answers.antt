@@ -1,5 +1,5 @@
-use Rattle.std.proofs.Common.{◌≡◌, ◌+◌, ◌%◌, [], ◌∷◌, ◌++◌, length, get_or, take, drop, unwrap_or, ap, ◌∙◌, subst, arith, length-drop}
-use Rattle.std.proofs.lemmas.List.{take_rest, drop-drop, length-take-le}
+use Rattle.std.proofs.Common.{◌≡◌, ◌%◌, [], ◌∷◌, ◌++◌, get_or, take, drop, unwrap_or, ap, ◌∙◌, subst}
+use Rattle.std.proofs.lemmas.List.{take_rest, drop-drop}
 use Rattle.psi.specs.Lookup.{out_of}
 use Rattle.psi.specs.Packet.{Bytes, byte, pid_in, pid_high}
 use Rattle.psi.specs.Places.{written}

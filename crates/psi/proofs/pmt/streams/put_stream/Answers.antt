@@ -1,4 +1,4 @@
-use Rattle.std.proofs.Common.{[], ◌∷◌, ◌++◌, get_or, drop, ap, ◌∙◌, append_assoc, arith, length-drop}
+use Rattle.std.proofs.Common.{[], ◌∷◌, ◌++◌, get_or, drop, ap, ◌∙◌, append_assoc, arith}
 use Rattle.std.proofs.lemmas.List.{take_rest}
 use Rattle.psi.specs.Packet.{Bytes, byte}
 use Rattle.psi.specs.Places.{written}
