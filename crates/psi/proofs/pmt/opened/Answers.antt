@@ -1,18 +1,14 @@
 use Rattle.std.proofs.Common.{sym, ap, ◌∙◌, arith}
 use Rattle.std.proofs.lemmas.List.{take_rest}
 use Rattle.psi.specs.Packet.{payload_only}
-use Rattle.psi.proofs.Packets.{Headed, headed, good_parts}
+use Rattle.psi.proofs.Packets.{headed, good_parts}
 use Rattle.psi.proofs.Shapes.{Opens, opens_from, is_payload}
 use Rattle.psi.proofs.pmt.opened.Goals as goal
-use Rattle.psi.proofs.pmt.opened.Goals.{In_ok-head}
-
-known : (c : In_ok-head) → Headed c.args.packet.now c.in_ok-head.head
-known c = headed c.args.packet.now c.in_ok-head.head c.in_ok-head.ensures
 
 pub returns : goal.returns
 returns c =
     let x = c.args.packet.now in
-    let h = known (goal.at.returns c).In_ok-head in
+    let h = headed x c.in_ok-head.head c.in_ok-head.ensures in
     let o : Opens x =
     record {
       good = h.good;

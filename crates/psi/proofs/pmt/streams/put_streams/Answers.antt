@@ -2,6 +2,7 @@ use Rattle.std.proofs.Common.{◌≡◌, ℕ, ◌+◌, ◌<◌, ◌++◌, length
 use Rattle.std.specs.Option.{option_map}
 use Rattle.std.proofs.lemmas.List.{get_or-take, get_or-drop, length-take-le, nil_from_length}
 use Rattle.std.proofs.lemmas.Bool.{eqb-true, eqb-false}
+use Rattle.std.proofs.lemmas.Grind.{common_steps}
 use Rattle.psi.specs.Lookup.{out_of}
 use Rattle.psi.specs.Packet.{Bytes, byte, pid_in, with_pid}
 use Rattle.psi.specs.Places.{written}
@@ -31,30 +32,16 @@ looked c =
     ∙ ap (λ (s : Bytes). pid_in (byte s 1) (byte s 2)) front
     ∙ (λ i. pid_in (get_or-take n rest 1 0 (omega arith) i) (get_or-take n rest 2 0 (omega arith) i)))
 
--- what is left is shorter, by the stream
-shorter : (c : After-out_of) → (length c.in_ok-stream.stream.now ≡ stream_length c.loop-rest.rest.now) × (length c.in_ok-stream.after.now + stream_length c.loop-rest.rest.now ≡ length c.loop-rest.rest.now)
-shorter c =
-    let rest = c.loop-rest.rest.now in
-    let told = c.in_ok-stream.ensures in
-    (ap length told.1 ∙ length-take-le (stream_length rest) rest told.0, (let l = ap length told.2 ∙ length-drop (stream_length rest) rest in omega (arith, told.0)))
-
-small : (c : After-out_of) (i : ℕ) → get_or c.in_ok-stream.after.now i 0 < 0x100
-small c i =
-    let rest = c.loop-rest.rest.now in
-    subst (λ n. n < 0x100) (sym (ap (λ (s : Bytes). get_or s i 0) c.in_ok-stream.ensures.2 ∙ get_or-drop (stream_length rest) rest i 0)) (c.loop-rest.invariant.2 (stream_length rest + i))
-
 pub loop-rest-preserved-in-Some : goal.loop-rest-preserved-in-Some
 loop-rest-preserved-in-Some c =
     let d = (goal.at.loop-rest-preserved-in-Some c).After-out_of in
     let rest = c.loop-rest.rest.now in
     let rows = c.args.rows.now in
     let told = c.in_ok-stream.ensures in
-    let lengths = shorter d in
-    let inv = c.loop-rest.invariant in
-    let len = c.put_stream.ensures.len in (
-      omega (arith, inv.0),
-      omega (arith, inv.1, lengths.0, lengths.1),
-      small d,
+    let inv = c.loop-rest.invariant in (
+      omega (arith, inv.0, c.put_stream.ensures.len),
+      grind (arith, common_steps, told.0, told.1, told.2),
+      λ i. rw told.2 (rw get_or-drop (inv.2 (stream_length rest + i))),
       ap (λ (s : Bytes). option_map (adds rows c.args.parent (written c.put_stream.new.place)) (streams_of s)) told.2
           ∙ one_moved rows c.args.parent (written c.loop-rest.place) rest _ (some (goal.at.loop-rest-preserved-in-Some c).After-split_stream) told.0 inv.3 _ c.in-Some.out (inv.2 4) (sym (looked d) ∙ c.in-Some.is)
           (c.put_stream.ensures.written ∙ ap (λ (s : Bytes). written c.loop-rest.place ++ with_pid c.in-Some.out s) told.1),
@@ -66,11 +53,10 @@ loop-rest-preserved c =
     let rest = c.loop-rest.rest.now in
     let rows = c.args.rows.now in
     let told = c.in_ok-stream.ensures in
-    let lengths = shorter d in
     let inv = c.loop-rest.invariant in (
       inv.0,
-      omega (arith, inv.1, lengths.1),
-      small d,
+      grind (arith, common_steps, told.0, told.2),
+      λ i. rw told.2 (rw get_or-drop (inv.2 (stream_length rest + i))),
       ap (λ (s : Bytes). option_map (adds rows c.args.parent (written c.loop-rest.place)) (streams_of s)) told.2
           ∙ one_gone rows c.args.parent (written c.loop-rest.place) rest _ (some (goal.at.loop-rest-preserved c).After-split_stream) told.0 inv.3 (sym (looked d) ∙ c.in_default.is),
     )
