@@ -1,13 +1,14 @@
-use Rattle.std.proofs.Common.{◌≡◌, ℕ, cond, Some, None, Option, sym, ap, ◌∙◌}
+use Rattle.std.proofs.Common.{◌≡◌, ℕ, cond, Some, None, Option, sym, ap, ◌∙◌, arith}
 use Rattle.std.proofs.lemmas.Bool.{cond-true}
+use Rattle.std.proofs.lemmas.Grind.{common_steps}
 use Rattle.config.specs.declared.row.Row.{Row}
-use Rattle.psi.specs.Delivery.{by_patch, by_kind, by_row, deliver_by}
+use Rattle.psi.specs.Delivery.{deliverable, by_row, deliver_by}
 use Rattle.psi.specs.Lookup.{find_row}
 use Rattle.psi.specs.Packet.{good_packet}
 use Rattle.psi.proofs.Deliveries.{told}
 use Rattle.psi.proofs.Packets.{headed}
 use Rattle.psi.proofs.delivery.deliver_by.Goals as goal
-use Rattle.psi.proofs.delivery.deliver_by.Goals.{After-find_row, in-Pass, in-Pmt}
+use Rattle.psi.proofs.delivery.deliver_by.Goals.{After-find_row}
 
 -- what is made of the packet for what was found
 made : (c : After-find_row) (found : Option (ℕ × Row)) → c.find_row.result ≡ found
@@ -23,23 +24,10 @@ returns-in_default-clause-value c = made (goal.at.returns-in_default-clause-valu
 
 pub returns-in-Some-left : goal.returns-in-Some-left
 returns-in-Some-left c =
-    let number = c.in-Some.number in
-    let of-kind = by_kind c.args.rows.now number c.in-Some.row c.args.packet.now in
-    let left : of-kind c.in-Some.row.kind ≡ by_patch number c.match-row.left =
-    elim c.match-row.branch [
-      | in-Pass w ↦ ap of-kind w.in-Pass.is ∙ ap (by_patch number) (sym (w.left-is ∙ ap Some w.changed.ensures))
-      | in-Pmt w ↦ ap of-kind w.in-Pmt.is ∙ ap (by_patch number) (sym (w.left-is ∙ w.patch-left.ensures.value))
-    ] in
-    told c.args.rows.now c.args.parent c.args.packet.now _
-    (ap Some (ap (by_patch number) (sym c.in-Some-left.is) ∙ sym left) ∙ made (goal.at.returns-in-Some-left c).After-find_row (Some (number, c.in-Some.row)) c.in-Some.is)
+    let m = made (goal.at.returns-in-Some-left c).After-find_row (Some (c.in-Some.number, c.in-Some.row)) c.in-Some.is in
+    told c.args.rows.now c.args.parent c.args.packet.now (Some (deliverable c.in-Some.number c.in-Some-left.bytes)) (grind (arith, common_steps))
 
 pub returns-in-None-clause-value : goal.returns-in-None-clause-value
 returns-in-None-clause-value c =
-    let number = c.in-Some.number in
-    let of-kind = by_kind c.args.rows.now number c.in-Some.row c.args.packet.now in
-    let left : of-kind c.in-Some.row.kind ≡ by_patch number c.match-row.left =
-    elim c.match-row.branch [
-      | in-Pass w ↦ ap of-kind w.in-Pass.is ∙ ap (by_patch number) (sym (w.left-is ∙ ap Some w.changed.ensures))
-      | in-Pmt w ↦ ap of-kind w.in-Pmt.is ∙ ap (by_patch number) (sym (w.left-is ∙ w.patch-left.ensures.value))
-    ] in
-    ap Some (ap (by_patch number) (sym c.in-None.is) ∙ sym left) ∙ made (goal.at.returns-in-None-clause-value c).After-find_row (Some (number, c.in-Some.row)) c.in-Some.is
+    let m = made (goal.at.returns-in-None-clause-value c).After-find_row (Some (c.in-Some.number, c.in-Some.row)) c.in-Some.is in
+    grind (arith, common_steps)
