@@ -16,9 +16,8 @@ some c = omega (arith, eqb-false (length c.loop-rest.rest.now) 0 (sym c.loop-res
 
 pub returns-in_err-stream-clause-written : goal.returns-in_err-stream-clause-written
 returns-in_err-stream-clause-written c =
-    let p = written c.args.place.now in
     let none = streams_none c.loop-rest.rest.now (some (goal.at.returns-in_err-stream-clause-written c).After-split_stream) c.in_err-stream.ensures in
-    subst (StreamsWritten c.args.rows.now c.args.parent p (streams_of c.args.bytes.now) (written c.loop-rest.place)) (sym c.from_residual.ensures) (ended_wrong c.args.rows.now c.args.parent p _ _ (sym c.loop-rest.invariant.3 ∙ ap (option_map (adds c.args.rows.now c.args.parent (written c.loop-rest.place))) none))
+    grind (arith, common_steps, ended_wrong c.args.rows.now c.args.parent (written c.args.place.now) (written c.loop-rest.place) (streams_of c.args.bytes.now))
 
 -- the row that was looked for is the row of the first stream
 looked : (c : After-out_of) → c.out_of.result ≡ out_of c.args.rows.now c.args.parent (pid_in (byte c.loop-rest.rest.now 1) (byte c.loop-rest.rest.now 2))
