@@ -63,8 +63,5 @@ loop-rest-preserved c =
 pub returns-clause-written : goal.returns-clause-written
 unfolding streams_of
 returns-clause-written c =
-    let w = written c.loop-rest.place in
-    let rows = c.args.rows.now in
     let empty = nil_from_length c.loop-rest.rest.now (eqb-true (length c.loop-rest.rest.now) 0 (sym c.loop-rest-test.ensures)) in
-    ended_right rows c.args.parent (written c.args.place.now) w (streams_of c.args.bytes.now)
-    (sym c.loop-rest.invariant.3 ∙ ap (λ (s : Bytes). option_map (adds rows c.args.parent w) (streams_of s)) empty ∙ ap Some (append-nil w))
+    grind (arith, common_steps, append-nil (written c.loop-rest.place), ended_right c.args.rows.now c.args.parent (written c.args.place.now) (written c.loop-rest.place) (streams_of c.args.bytes.now))
