@@ -4,7 +4,6 @@ use Rattle.std.proofs.lemmas.Bool.{cond-true, cond-false, ltb-true, ltb-false, l
 use Rattle.psi.specs.Packet.{byte, scrambling_of, adaptation_in}
 use Rattle.psi.proofs.Packets.{Good, good_from, bad_from}
 use Rattle.psi.proofs.packet.Head.of.Goals as goal
-use Rattle.psi.proofs.packet.Head.of.Goals.{then-rest-via-then-rest, then-rest-via-else-rest+then-b1-ge128}
 
 -- src/packet.rt:36:13
 pub returns-in_default : goal.returns-in_default
@@ -16,8 +15,7 @@ returns-in_default-2 c = sym (cond-false _ _ _ (bad_from c.args.packet.now (λ g
 
 -- src/packet.rt:39:13
 pub returns-then-rest : goal.returns-then-rest
-returns-then-rest c =
-    sym (cond-false _ _ _ (bad_from c.args.packet.now (λ g. elim c.then-rest.branch [ then-rest-via-then-rest w ↦ omega arith | then-rest-via-else-rest+then-b1-ge128 w ↦ omega arith ])))
+returns-then-rest c = sym (cond-false _ _ _ (bad_from c.args.packet.now (λ g. grind arith)))
 
 -- src/packet.rt:32:5
 pub returns : goal.returns

@@ -2,7 +2,6 @@ use Rattle.std.proofs.Common.{◌-◌, ap, ◌∙◌, arith}
 use Rattle.std.proofs.lemmas.Bool.{ltb-true}
 use Rattle.psi.proofs.Shapes.{Fixed, fixed_from, fixed_not}
 use Rattle.psi.proofs.pmt.section.crc_place.Goals as goal
-use Rattle.psi.proofs.pmt.section.crc_place.Goals.{then-high-lt128-via-then-high-lt128, then-high-lt128-via-else-high-lt128+then-length-lt13, then-high-lt128-via-else-high-lt128+else-length-lt13+then-length-gt180, then-high-lt128-via-else-high-lt128+else-length-lt13+else-length-gt180+then-length-bytes}
 
 pub returns-in_default : goal.returns-in_default
 returns-in_default c = fixed_not c.args.bytes.now (λ f. omega (arith, ltb-true))
@@ -17,15 +16,7 @@ pub returns-in_default-4 : goal.returns-in_default-4
 returns-in_default-4 c = fixed_not c.args.bytes.now (λ f. omega arith)
 
 pub returns-then-high-lt128 : goal.returns-then-high-lt128
-returns-then-high-lt128 c =
-    fixed_not c.args.bytes.now
-    (λ f.
-    elim c.then-high-lt128.branch [
-      | then-high-lt128-via-then-high-lt128 w ↦ omega arith
-      | then-high-lt128-via-else-high-lt128+then-length-lt13 w ↦ omega arith
-      | then-high-lt128-via-else-high-lt128+else-length-lt13+then-length-gt180 w ↦ omega arith
-      | then-high-lt128-via-else-high-lt128+else-length-lt13+else-length-gt180+then-length-bytes w ↦ omega arith
-    ])
+returns-then-high-lt128 c = fixed_not c.args.bytes.now (λ f. grind arith)
 
 pub returns-then-from-length : goal.returns-then-from-length
 returns-then-from-length c = fixed_not c.args.bytes.now (λ f. omega arith)
