@@ -1,9 +1,8 @@
-use Rattle.std.proofs.Common.{sym, ap, ◌∙◌, arith}
+use Rattle.std.proofs.Common.{arith}
 use Rattle.std.proofs.lemmas.List.{take_rest}
 use Rattle.std.proofs.lemmas.Grind.{common_steps}
-use Rattle.psi.specs.Packet.{payload_only}
 use Rattle.psi.proofs.Packets.{headed, good_parts}
-use Rattle.psi.proofs.Shapes.{Opens, opens_from, is_payload}
+use Rattle.psi.proofs.Shapes.{opens_from, is_payload}
 use Rattle.psi.proofs.pmt.opened.Goals as goal
 
 pub returns : goal.returns

@@ -1,7 +1,6 @@
-use Rattle.std.proofs.Common.{[], ◌∷◌, ◌++◌, get_or, drop, ap, ◌∙◌, append_assoc, arith}
+use Rattle.std.proofs.Common.{append_assoc, arith}
 use Rattle.std.proofs.lemmas.List.{take_rest}
 use Rattle.std.proofs.lemmas.Grind.{common_steps}
-use Rattle.psi.specs.Packet.{Bytes, byte}
 use Rattle.psi.specs.Places.{written}
 use Rattle.psi.proofs.Entries.{with_pid_front}
 use Rattle.psi.proofs.pmt.streams.put_stream.Goals as goal

@@ -1,12 +1,12 @@
-use Rattle.std.proofs.Common.{◌≡◌, ℕ, ◌+◌, ◌<◌, ◌++◌, length, get_or, Some, sym, ap, ◌∙◌, subst, append-nil, arith, length-drop}
+use Rattle.std.proofs.Common.{◌≡◌, ◌+◌, ◌<◌, ◌++◌, length, sym, ap, ◌∙◌, append-nil, arith}
 use Rattle.std.specs.Option.{option_map}
-use Rattle.std.proofs.lemmas.List.{get_or-take, get_or-drop, length-take-le, nil_from_length}
+use Rattle.std.proofs.lemmas.List.{get_or-take, get_or-drop, nil_from_length}
 use Rattle.std.proofs.lemmas.Bool.{eqb-true, eqb-false}
 use Rattle.std.proofs.lemmas.Grind.{common_steps}
 use Rattle.psi.specs.Lookup.{out_of}
 use Rattle.psi.specs.Packet.{Bytes, byte, pid_in, with_pid}
 use Rattle.psi.specs.Places.{written}
-use Rattle.psi.specs.Pmt.{stream_length, streams_of, StreamsWritten}
+use Rattle.psi.specs.Pmt.{stream_length, streams_of}
 use Rattle.psi.proofs.Entries.{adds, streams_none, one_moved, one_gone, ended_wrong, ended_right}
 use Rattle.psi.proofs.pmt.streams.put_streams.Goals as goal
 use Rattle.psi.proofs.pmt.streams.put_streams.Goals.{After-out_of, After-split_stream}
