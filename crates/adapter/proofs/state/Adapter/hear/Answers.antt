@@ -1,4 +1,4 @@
-use Rattle.std.proofs.Common.{rules, ◌≡◌, ℕ, set, Some, Ok, Err, Option, sym, refl, ap, ◌∙◌, subst, arith}
+use Rattle.std.proofs.Common.{rules, ◌≡◌, ℕ, set, Some, Ok, sym, refl, ◌∙◌, subst, arith}
 use Rattle.std.proofs.lemmas.Result.{err_from_is_err_and}
 use Rattle.memory.specs.Memory.{line_in, room_in}
 use Rattle.psi.specs.Delivery.{deliver, meant}
@@ -8,9 +8,7 @@ use Rattle.rules.specs.Times.{Untimely}
 use Rattle.adapter.specs.Answers.{hear_answer}
 use Rattle.adapter.specs.Fields.{state_from, Reached}
 use Rattle.adapter.specs.Keeping.{Keeps}
-use Rattle.rules.specs.State.{Parent}
-use Rattle.adapter.specs.Parents.{stamp_of, StampedSo}
-use Rattle.adapter.specs.declared.times.Times.{Times}
+use Rattle.adapter.specs.Parents.{stamp_of}
 use Rattle.adapter.specs.View.{view, setup_of, entries_of}
 use Rattle.adapter.specs.declared.answer.Heard.{Heard}
 use Rattle.adapter.proofs.Hearing.{delivered_good, full_stays, heard_taken, heard_full, has_place, parent_is, line_is, arrives_by, known_by, same_lines, same_state}
@@ -22,13 +20,10 @@ use Rattle.adapter.proofs.state.Adapter.hear.Goals.{After-stamp, After-keep}
 good : (c : After-stamp) → Good (setup_of c.args.self.now) (entries_of c.args.self.now) c.args.parent c.args.packet.now
 good c = record { known = c.in_ok-listed.ensures; good = (delivered_good _ _ _ c.in-Ok.ensures.value).0 }
 
-at_ok : (rate : ℕ) (P : Parent) (t : Option ℕ) {o o' : Option Times} → o ≡ o' → StampedSo rate P t (Ok o) → StampedSo rate P t (Ok o')
-at_ok rate P t is h = subst (λ o. StampedSo rate P t (Ok o)) is h
-
 pub returns-in_default-stamped-clause-rule : goal.returns-in_default-stamped-clause-rule
 returns-in_default-stamped-clause-rule c =
     let a = c.args.self.now in
-    let so = at_ok _ _ _ c.in_default-stamped.is (c.in-Ok-stamp.ensures (line_in a.memory c.args.parent)) in
+    let so = rw c.in_default-stamped.is at (c.in-Ok-stamp.ensures (line_in a.memory c.args.parent)) in
     unanchored (good (goal.at.returns-in_default-stamped-clause-rule c).After-stamp) (parent_is a c.args.parent c.in_ok-listed.ensures c.index-self-parent.result ∙ so.0) so.1 refl refl
 
 pub returns-in_default-stamp-clause-rule : goal.returns-in_default-stamp-clause-rule
@@ -41,7 +36,7 @@ returns-in_default-stamp-clause-rule c =
 arrives : (c : After-keep) → Arrives (setup_of c.args.self.now) (entries_of c.args.self.now) (view c.args.self.now) c.args.parent c.args.packet.now c.args.time (stamp_of c.in-Some.times)
 arrives c =
     arrives_by c.args.self.now c.args.parent c.in_ok-listed.ensures c.args.packet.now c.args.time c.index-self-parent.result c.rates.result.now c.in-Some.times
-    (delivered_good _ _ _ c.in-Ok.ensures.value).0 c.rates.ensures (λ line. at_ok _ _ _ c.in-Some.is (c.in-Ok-stamp.ensures line))
+    (delivered_good _ _ _ c.in-Ok.ensures.value).0 c.rates.ensures (λ line. rw c.in-Some.is at (c.in-Ok-stamp.ensures line))
 
 maps : (c : After-keep) → meant c.in-Ok.delivered ≡ deliver (setup_of c.args.self.now) c.args.parent c.args.packet.now
 maps c = (delivered_good _ _ _ c.in-Ok.ensures.value).1
@@ -70,7 +65,7 @@ returns-in_err-heard-clause-rule c =
     let k = (goal.at.returns-in_err-heard-clause-rule c).After-keep in
     let state = same_state a c.args.parent listed m c.keep.ensures.lines (full_stays _ c.in_err-heard.ensures.rule) c.keep.ensures.rest.backlog in
     let err = err_from_is_err_and c.from_residual-in_err-heard.result c.from_residual-in_err-heard.ensures.1 in
-    subst (λ r. Hears (setup_of a) (entries_of a) (view a) c.args.parent c.args.packet.now c.args.time (hear_answer r) (state_from m a.heard a.records a.step)) (sym (err.1 ∙ ap Err err.2))
+    rw (err.1, err.2)
     (heard_full _ _ _ _ _ _ _ _ _ _ _ (arrives k) (maps k) a.room (line_is a c.args.parent listed) _ _ c.in_err-heard.ensures.rule state)
 
 -- the packet was taken
