@@ -28,7 +28,7 @@ use std::io;
 
 mod words;
 
-use words::{bytes_in, cut, number_in, row_in};
+use words::{bytes_in, cut, number_in, row_in, small_in};
 
 fn main(rt: HostRuntime) -> io::Result<()> {
     let mut rows = Vec::new(rt.alloc());
@@ -114,7 +114,7 @@ fn show_pid(rt: &HostRuntime, line: &str) -> io::Result<()> {
 
 fn show_row(rt: &HostRuntime, rows: &[Row], line: &str) -> io::Result<()> {
     let (parent, pid) = cut(line);
-    let found = find_row(rows, number_in(parent), number_in(pid));
+    let found = find_row(rows, small_in(parent), number_in(pid));
     show_found(rt, found.map(|(number, _)| number))
 }
 
@@ -127,13 +127,13 @@ fn show_found(rt: &HostRuntime, number: Option<usize>) -> io::Result<()> {
 
 fn show_pat(rt: &HostRuntime, rows: &[Row], line: &str) -> io::Result<()> {
     let (counter, tsid) = cut(line);
-    show_made(rt, pat(number_in(counter), number_in(tsid), rows), "none")
+    show_made(rt, pat(small_in(counter), number_in(tsid), rows), "none")
 }
 
 fn show_delivery(rt: &HostRuntime, rows: &[Row], line: &str) -> io::Result<()> {
     let (parent, hex) = cut(line);
     let bytes = bytes_in(rt.alloc(), hex)?;
-    show_delivered(rt, deliver_by(rows, number_in(parent), bytes.as_slice()))
+    show_delivered(rt, deliver_by(rows, small_in(parent), bytes.as_slice()))
 }
 
 fn show_delivered(rt: &HostRuntime, delivered: Result<Delivered, BadPacket>) -> io::Result<()> {
@@ -171,11 +171,11 @@ fn show_copy(rt: &HostRuntime, config: &Config, line: &str) -> io::Result<()> {
 
 fn show_number(rt: &HostRuntime, config: &Config, line: &str) -> io::Result<()> {
     let (parent, pid) = cut(line);
-    show_found(rt, row_of(config, number_in(parent), number_in(pid)))
+    show_found(rt, row_of(config, small_in(parent), number_in(pid)))
 }
 
 fn show_heard(rt: &HostRuntime, config: &Config, line: &str) -> io::Result<()> {
     let (parent, hex) = cut(line);
     let bytes = bytes_in(rt.alloc(), hex)?;
-    show_delivered(rt, deliver(config, number_in(parent), bytes.as_slice()))
+    show_delivered(rt, deliver(config, small_in(parent), bytes.as_slice()))
 }
