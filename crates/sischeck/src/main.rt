@@ -6,7 +6,6 @@
 use anyhow::anyhow;
 use conffile::read_text;
 use config::answer::answer_line;
-use config::check::check;
 use std::process::ExitCode;
 use std::{env, fs};
 
@@ -22,7 +21,8 @@ fn run(rt: &HostRuntime) -> anyhow::Result<bool> {
     };
     let line = answer_line(heap, text.as_slice())?;
     rt.println(line.as_str())?;
-    Ok(check(heap, text.as_slice()).is_ok())
+    // The line tells it: the check is not asked again, which might want memory.
+    Ok(line.as_str().starts_with("ok"))
 }
 
 fn main(rt: HostRuntime) -> anyhow::Result<ExitCode> {
