@@ -46,7 +46,10 @@ impl Parent {
             .iter()
             .take_while(|arrival| **arrival < limit)
             .count();
-        self.held.drain(..gone);
+        // For most slots nothing goes, and a drain of nothing has its cost.
+        if gone > 0 {
+            self.held.drain(..gone);
+        }
         u32::try_from(gone).unwrap_or(u32::MAX)
     }
 }
