@@ -127,6 +127,18 @@ impl<'a> Run<'a> {
     }
 }
 
+// A fault of a log by its name and its line; line 0 is what comes before the first.
+fn at_line(heap: Global, name: &str, number: u64, fault: Fault) -> Stop {
+    match String::from_str(heap, name) {
+        Ok(name) => Stop::Line {
+            log: Some(name),
+            number,
+            fault,
+        },
+        Err(error) => Stop::from(error),
+    }
+}
+
 // What a log tells, by the name of the log.
 pub(crate) fn replay<R: Read>(
     heap: Global,
@@ -137,18 +149,14 @@ pub(crate) fn replay<R: Read>(
 where
     R: Drop,
 {
-    let mut run = Run::new(heap, accepted)?;
-    for (index, line) in BufReader::new(heap, log)?.lines(heap).enumerate() {
-        let ended = line
-            .map_err(Fault::Unreadable)
-            .and_then(|line| run.line(line.as_bytes()));
-        if let Err(fault) = ended {
-            return Err(Stop::Line {
-                log: Some(String::from_str(heap, name)?),
-                number: (index + 1) as u64,
-                fault,
-            });
-        }
+    let run = Run::new(heap, accepted);
+    let mut run = run.map_err(|error| at_line(heap, name, 0, Fault::from(error)))?;
+    let log = BufReader::new(heap, log);
+    let log = log.map_err(|error| at_line(heap, name, 0, Fault::Unreadable(error)))?;
+    for (index, line) in log.lines(heap).enumerate() {
+        line.map_err(Fault::Unreadable)
+            .and_then(|line| run.line(line.as_bytes()))
+            .map_err(|fault| at_line(heap, name, (index + 1) as u64, fault))?;
     }
     Ok(run.account)
 }
