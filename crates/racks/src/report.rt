@@ -5,7 +5,6 @@ use crate::records::differing;
 use crate::streams::broken_at;
 use agreement::{agreed_from, in_common};
 use std::alloc::{AllocError, Global};
-use std::collections::BTreeSet;
 use std::fmt;
 
 // A parent whose packets do not follow one another, and where.
@@ -28,7 +27,7 @@ impl fmt::Display for Break {
 #[derive(Drop)]
 pub(crate) struct Report {
     // Premises that fail.
-    records: BTreeSet<u32>,
+    records: Vec<u32>,
     breaks: Vec<Break>,
     differences: Differences,
     common: usize,
