@@ -17,7 +17,8 @@ fn shares(one: &Row, other: &Row) -> bool
 fn shares_any(row: &Row, others: &[Row]) -> bool
     ensures { result ≡ any_shares row.now others.now }
 {
-    others.iter().any(|other| shares(row, other))
+    let row = *row;
+    others.iter().any(|other| shares(&row, other))
 }
 
 // The first row that names a parent which is not one of so many, or shares with a row before it.
