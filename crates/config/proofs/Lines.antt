@@ -1,14 +1,15 @@
 -- What is wrong with a line, by its fields and its place in a table.
-use Rattle.std.proofs.Common.{◌≡◌, ℕ, zero, suc, ◌+◌, ◌-◌, ◌<◌, Bool, true, false, cond, ◌&&◌, ◌||◌, eqb, leb, List, [], ◌∷◌, length, get_or, drop, Some, None, Ok, Err, Option, sym, refl, ap, ◌∙◌, ⊎_elim, add-one, arith, length-drop}
+use Rattle.std.proofs.Common.{◌≡◌, ℕ, zero, suc, ◌+◌, ◌-◌, ◌<◌, Bool, true, false, cond, ◌&&◌, ◌||◌, eqb, leb, List, [], ◌∷◌, length, get_or, drop, Some, None, Ok, Err, Option, sym, refl, ap, ◌∙◌, ⊎_elim, add-zero, add-one, arith, length-drop}
 use Rattle.std.specs.List.{slice_get}
 use Rattle.std.specs.Option.{option_or, option_map}
-use Rattle.std.proofs.lemmas.List.{drop_more}
+use Rattle.std.proofs.lemmas.List.{drop_more, drop-drop, get_or-drop}
 use Rattle.std.proofs.lemmas.Bool.{eq-eqb, ne_eqb, cond-true, cond-false, cases_eq, eqb-true, or_parts, leb-false}
 use Rattle.config.specs.declared.fault.TextRefusal.{TextRefusal}
 use Rattle.config.specs.declared.fault.TextRefusal.TheVariants.{Form, Range}
 use Rattle.config.specs.declared.fault.TextFault.{TextFault}
+use Rattle.config.specs.declared.fields.Fields.{Fields}
 use Rattle.config.specs.Layout.{Rule, fault, field_at, leftmost, values_wrong, table_line}
-use Rattle.config.specs.Reading.{unless, count_wrong, field_wrong}
+use Rattle.config.specs.Reading.{unless, next_field, IsNext, Moved, count_wrong, field_wrong}
 use Rattle.config.specs.Text.{Bytes, fields}
 
 -- what `unless` says of what it answers
@@ -27,6 +28,24 @@ or_other_none (Some x) p e = let z : ◌≡◌ {A = ℕ} 0 1 = cc in absurd (ome
 mapped_none : {X Y : Type 0} (g : X → Y) (o : Option X) → option_map g o ≡ None → o ≡ None
 mapped_none g None e = refl
 mapped_none g (Some x) e = let z : ◌≡◌ {A = ℕ} 0 1 = cc in absurd (omega arith)
+
+-- the next field, by the line, and the one behind it
+module _ (k : ℕ) (f : Fields) (is : IsNext k f) where
+  pub next_is : next_field f ≡ field_at f.bytes.now (k - 1)
+  next_is = ap (λ fs. get_or fs 0 []) is.rest ∙ get_or-drop (k - 1) (fields f.bytes.now) 0 [] ∙ ap (λ i. get_or (fields f.bytes.now) i []) (add-zero (k - 1))
+
+  pub moved_on : (g : Fields) → Moved f g → IsNext (k + 1) g
+  moved_on g moved =
+      let behind : (k - 1) + 1 ≡ (k + 1) - 1 = omega (arith, is.counted) in
+      record {
+        counted = omega arith;
+        rest =
+            moved.rest
+            ∙ ap (drop 1) is.rest
+            ∙ drop-drop 1 (k - 1) (fields f.bytes.now)
+            ∙ ap (λ i. drop i (fields f.bytes.now)) behind
+            ∙ ap (λ bs. drop ((k + 1) - 1) (fields bs)) (sym moved.same_bytes);
+      }
 
 -- the leftmost field that breaks its rule, field by field
 abbrev pub fields_wrong : ℕ → ℕ → List Rule → Bytes → Option TextFault

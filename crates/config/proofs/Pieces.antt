@@ -1,10 +1,8 @@
 -- How a text's first line and a line's first field come off.
-use Rattle.std.proofs.Common.{cond, ◌∙◌, sym, Option, ◌≡◌, ℕ, zero, suc, ◌+◌, ◌<◌, ◌≤◌, eqb, List, [], ◌∷◌, length, get_or, take, drop, Some, None, refl, ap, ⊎_elim, suc-le-suc, zero-le, add-one, arith}
-use Rattle.std.specs.Borrow.{Bor}
-use Rattle.std.specs.List.{slice_get, slice_split, onto_first}
-use Rattle.std.specs.Option.{option_map, unwrap_or}
-use Rattle.std.proofs.lemmas.Bool.{eq-eqb, ne_eqb, cases_lt}
-use Rattle.std.proofs.lemmas.List.{drop_all, take_all, nil_from_length}
+use Rattle.std.proofs.Common.{◌≡◌, ℕ, zero, suc, ◌+◌, ◌<◌, ◌≤◌, eqb, List, [], ◌∷◌, length, get_or, take, drop, Some, None, refl, ap, ⊎_elim, suc-le-suc, zero-le, add-one, arith}
+use Rattle.std.specs.List.{slice_get}
+use Rattle.std.proofs.lemmas.Bool.{eq-eqb, ne_eqb, cases_lt, cond_both}
+use Rattle.std.proofs.lemmas.List.{drop_all, take_all, nil_from_length, at_drop_more, at_drop_all}
 use Rattle.config.specs.Text.{Bytes, onto, cut, lines, fields}
 
 -- none of the first n bytes is the separator
@@ -74,22 +72,47 @@ nth_none [] n e = refl
 nth_none (y ∷ xs) zero e = cc
 nth_none (y ∷ xs) (suc n) e = nth_none xs n e
 
--- the fields are the parts between spaces
-onto_is : (b : ℕ) (ps : List Bytes) → onto b ps ≡ onto_first b ps
-onto_is b [] = refl
-onto_is b (p ∷ ps) = refl
+-- How many fields there are: one more than spaces.
+length_onto : (b : ℕ) (ps : List Bytes) → 0 < length ps → length (onto b ps) ≡ length ps
+length_onto b [] some = absurd (omega arith)
+length_onto b (p ∷ ps) some = refl
 
-pub fields_split : (bs : Bytes) → slice_split (λ b. eqb b 32) bs ≡ fields bs
+some_fields : (bs : Bytes) → 0 < length (fields bs)
 unfolding fields
-fields_split [] = refl
-fields_split (b ∷ bs) =
-    let more = fields_split bs in
-    (λ i. cond (eqb b 32) ([] ∷ more i) (onto_first b (more i))) ∙ ap (λ ps. cond (eqb b 32) ([] ∷ fields bs) ps) (sym (onto_is b (fields bs)))
+some_fields [] = suc-le-suc zero-le
+some_fields (b ∷ bs) =
+    cond_both (eqb b 32) ([] ∷ fields bs) (onto b (fields bs)) (λ ps. 0 < length ps)
+    (λ e. suc-le-suc zero-le)
+    (λ e. omega (arith, length_onto b (fields bs) (some_fields bs), some_fields bs))
 
--- the part at n, or an empty one where there are fewer
-pub part_at : (all : List Bytes) (n : ℕ) (o : Option (Bor Bytes)) (d : Bor Bytes) → d.now ≡ [] → option_map (λ x. x.now) o ≡ slice_get all n → (unwrap_or o d).now ≡ get_or all n []
-part_at [] n None d empty e = empty
-part_at [] n (Some x) d empty e = let z : ◌≡◌ {A = ℕ} 0 1 = cc in absurd (omega arith)
-part_at (p ∷ ps) zero None d empty e = let z : ◌≡◌ {A = ℕ} 0 1 = cc in absurd (omega arith)
-part_at (p ∷ ps) zero (Some x) d empty e = cc
-part_at (p ∷ ps) (suc n) o d empty e = part_at ps n o d empty e
+space_first : (b : ℕ) (bs : Bytes) → b ≡ 32 → length (fields (b ∷ bs)) ≡ suc (length (fields bs))
+unfolding fields
+space_first b bs is = rw (eq-eqb b 32 is)
+
+other_first : (b : ℕ) (bs : Bytes) → (b ≡ 32 → ⊥) → length (fields (b ∷ bs)) ≡ length (fields bs)
+unfolding fields
+other_first b bs not = rw (ne_eqb b 32 not) (length_onto b (fields bs) (some_fields bs))
+
+-- so many spaces before index i
+pub record Spaces (bs : Bytes) (i n : ℕ) : Type 0 where
+  pub few : n ≤ i
+  pub rest : length (fields bs) ≡ n + length (fields (drop i bs))
+
+pub spaces_none : (bs : Bytes) → Spaces bs 0 0
+spaces_none bs = record { few = zero-le; rest = omega arith }
+
+module _ (bs : Bytes) (i n : ℕ) (within : i < length bs) (spaces : Spaces bs i n) where
+  step : length (fields (drop i bs)) ≡ length (fields (get_or bs i 0 ∷ drop (i + 1) bs))
+  step = at_drop_more (λ r. length (fields r)) bs i 0 within
+
+  pub space_more : get_or bs i 0 ≡ 32 → Spaces bs (i + 1) (n + 1)
+  space_more is =
+      record { few = omega (arith, spaces.few); rest = omega (arith, spaces.rest, step, space_first (get_or bs i 0) (drop (i + 1) bs) is) }
+
+  pub other_more : (get_or bs i 0 ≡ 32 → ⊥) → Spaces bs (i + 1) n
+  other_more not =
+      record { few = omega (arith, spaces.few); rest = omega (arith, spaces.rest, step, other_first (get_or bs i 0) (drop (i + 1) bs) not) }
+
+pub spaces_all : (bs : Bytes) (i n : ℕ) → length bs ≤ i → Spaces bs i n → n + 1 ≡ length (fields bs)
+unfolding fields
+spaces_all bs i n past spaces = omega (arith, spaces.rest, at_drop_all (λ r. length (fields r)) bs i past)

@@ -1,13 +1,15 @@
 -- What the reader's functions answer, between the text's bytes and the layout.
-use Rattle.std.specs.Prelude.{◌≡◌, ℕ, suc, ◌+◌, ◌-◌, Bool, cond, ◌&&◌, List, [], length, is_some, Some, None, Ok, Err, Option, Result, ◌==◌, nat_lt}
+use Rattle.std.specs.Prelude.{◌≡◌, ℕ, suc, ◌+◌, ◌-◌, ◌<◌, Bool, cond, ◌&&◌, List, [], length, drop, is_some, Some, None, Ok, Err, Option, Result, ◌==◌, nat_lt, slice_index_or}
 use Rattle.std.specs.List.{slice_get}
 use Rattle.std.specs.Option.{option_map}
 use Rattle.config.specs.declared.fault.TextFault.{TextFault}
 use Rattle.config.specs.declared.fault.TextRefusal.TheVariants.{Form}
 use Rattle.config.specs.Layout.{Rule, Place, gap, parent, fault, wrong_at, rate_of, field_at}
+use Rattle.config.specs.declared.fields.Fields.{Fields}
 use Rattle.config.specs.declared.line.Line.{Line}
 use Rattle.config.specs.declared.reader.Reader.{Reader}
 use Rattle.config.specs.Text.{Bytes, lines, fields}
+use Rattle.std.specs.Borrow.{Bor}
 
 -- the value, unless something is wrong
 abbrev pub unless : {E V : Type 0} → Option E → V → Result V E
@@ -54,6 +56,28 @@ abbrev pub rate_or_none : ℕ → Option Bytes → Option ℕ
 rate_or_none i o = cond (parents_end i o) None (Some (of_line rate_of o))
 
 -- ## A line, field by field
+
+abbrev pub fields_in : Option (Bor Bytes) → List Bytes
+fields_in None = []
+fields_in (Some rest) = fields rest.now
+
+-- the fields that have not been read
+abbrev pub left : Fields → List Bytes
+left f = fields_in f.rest
+
+abbrev pub next_field : Fields → Bytes
+next_field f = slice_index_or (left f) 0 []
+
+-- the next field is field k of its line, counted from 1
+pub record IsNext (k : ℕ) (f : Fields) : Type 0 where
+  pub counted : 0 < k
+  pub rest : left f ≡ drop (k - 1) (fields f.bytes.now)
+
+-- one field has been read
+pub record Moved (f g : Fields) : Type 0 where
+  pub rest : left g ≡ drop 1 (left f)
+  pub same_line : g.line ≡ f.line
+  pub same_bytes : g.bytes.now ≡ f.bytes.now
 
 -- what is wrong with line n, which should have so many fields
 abbrev pub count_wrong : ℕ → ℕ → Bytes → Option TextFault

@@ -1,11 +1,13 @@
-// A line of values, read by its fields.
+// A line of values, read field by field.
 pub mod steps;
 
-// The fields of a line.
-#[derive(Clone, Copy)]
+// A line, read up to some field.
+#[derive(Drop)]
 pub struct Fields<'a> {
     // the line's number, from 1
     line: u32,
     // its bytes without the line feed
     bytes: &'a [u8],
+    // those from the next field on, if there is one
+    rest: Option<&'a [u8]>,
 }

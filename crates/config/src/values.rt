@@ -1,10 +1,10 @@
 // Lines of values.
-#![tactic(auto, using(crate::proofs::Lines::unless_ok, crate::proofs::Lines::unless_err, crate::proofs::Lines::values_by_fields), unfolding(crate::specs::Layout::settings_of, crate::specs::Layout::rate_of, crate::specs::Layout::row_of))]
+#![tactic(auto, using(crate::proofs::Lines::unless_ok, crate::proofs::Lines::unless_err, crate::proofs::Lines::values_by_fields, crate::proofs::Lines::moved_on), unfolding(crate::specs::Layout::settings_of, crate::specs::Layout::rate_of, crate::specs::Layout::row_of))]
 
 ghost use Rattle.std.specs.Prelude.{◌≡◌, false};
 ghost use Rattle.std.specs.Range.{range_inclusive_start, range_inclusive_end, range_inclusive_exhausted};
 ghost use Rattle.config.specs.Layout.{values_wrong, settings_rules, settings_of, parent_rules, rate_of, row_rules, row_of};
-ghost use Rattle.config.specs.Reading.{unless};
+ghost use Rattle.config.specs.Reading.{IsNext, unless};
 ghost use Rattle.config.specs.Rows.{least_service, most_service};
 
 use crate::fault::TextFault;
@@ -14,7 +14,8 @@ use std::ops::RangeInclusive;
 
 impl Fields<'_> {
     // The settings that the line writes.
-    pub(crate) fn settings(self) -> Result<Settings, TextFault>
+    pub(crate) fn settings(mut self) -> Result<Settings, TextFault>
+        requires { IsNext 1 self }
         ensures { result ≡ unless (values_wrong self.entry.line settings_rules self.entry.bytes.now) (settings_of self.entry.bytes.now) }
     {
         self.should_be(4)?;
@@ -27,7 +28,8 @@ impl Fields<'_> {
     }
 
     // The rate that the line writes, which is that of parent `parent`.
-    pub(crate) fn rate(self, parent: u64) -> Result<u32, TextFault>
+    pub(crate) fn rate(mut self, parent: u64) -> Result<u32, TextFault>
+        requires { IsNext 1 self }
         ensures { result ≡ unless (values_wrong self.entry.line (parent_rules parent) self.entry.bytes.now) (rate_of self.entry.bytes.now) }
     {
         self.should_be(2)?;
@@ -37,7 +39,8 @@ impl Fields<'_> {
     }
 
     // The map row that the line writes.
-    pub(crate) fn row(self) -> Result<Row, TextFault>
+    pub(crate) fn row(mut self) -> Result<Row, TextFault>
+        requires { IsNext 1 self }
         ensures { result ≡ unless (values_wrong self.entry.line (row_rules (row_of self.entry.bytes.now).kind) self.entry.bytes.now) (row_of self.entry.bytes.now) }
     {
         self.should_be(5)?;

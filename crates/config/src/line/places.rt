@@ -39,7 +39,7 @@ impl<'a> Line<'a> {
 
     // The fields of `line`, if it may stand as line i of a table of 1 to `most` lines.
     fn in_table(self, line: &'a [u8], most: usize, i: usize) -> Result<Fields<'a>, TextFault>
-        ensures ok { IfOk result (λ f. (table_line self.entry.number most i line.entry.now None ≡ None) × (f ≡ record { line = self.entry.number; bytes = line.entry })) }
+        ensures ok { IfOk result (λ f. (table_line self.entry.number most i line.entry.now None ≡ None) × (f ≡ record { line = self.entry.number; bytes = line.entry; rest = Some line.entry })) }
         ensures err { IfErr result (λ e. table_line self.entry.number most i line.entry.now None ≡ Some e) }
     {
         if i >= most || (i == 0 && line.is_empty()) {

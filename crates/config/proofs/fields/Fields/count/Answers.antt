@@ -1,11 +1,19 @@
-use Rattle.std.proofs.Common.{eqb, length, ap, ◌∙◌, rules, tests}
-use Rattle.std.proofs.lemmas.Iterator.Consumers.{count_from_yields_List}
-use Rattle.std.proofs.lemmas.Iterator.Splits.{YieldsList-from_slice_split}
-use Rattle.config.proofs.Pieces.{fields_split}
+use Rattle.std.proofs.Common.{◌+◌, sym, subst}
+use Rattle.config.proofs.Pieces.{Spaces, spaces_none, space_more, other_more, spaces_all}
 use Rattle.config.proofs.fields.Fields.count.Goals as goal
+use Rattle.config.proofs.fields.Fields.count.Goals.{then-b-eq32, else-b-eq32}
+
+pub loop-b-init : goal.loop-b-init
+loop-b-init c = spaces_none _
+
+pub loop-b-preserved : goal.loop-b-preserved
+loop-b-preserved c =
+    let line = c.args.self.now.bytes.now in
+    let i = c.loop-b.b-index in
+    elim c.if-b-eq32.branch [
+      | then-b-eq32 w ↦ subst (Spaces line (i + 1)) (sym w.spaces-is) (space_more line i _ c.loop-b-test.true c.loop-b.invariant w.if-b-eq32.true)
+      | else-b-eq32 w ↦ subst (Spaces line (i + 1)) (sym w.spaces-is) (other_more line i _ c.loop-b-test.true c.loop-b.invariant w.if-b-eq32.false)
+    ]
 
 pub returns : goal.returns
-returns c =
-    count_from_yields_List c.split.result _ c.count.ensures.ran
-    (YieldsList-from_slice_split _ (λ b. eqb b 32) c.args.self.bytes.now c.split.ensures.rest c.split.ensures.done c.split.ensures.closure (λ x b q k. search (rules, tests)))
-    ∙ ap length (fields_split c.args.self.bytes.now)
+returns c = spaces_all _ _ _ c.loop-b-test.false c.loop-b.invariant
