@@ -1,11 +1,11 @@
 // A whole frame, slot by slot.
-ghost use Rattle.std.specs.Prelude.{◌≡◌, ◌^◌, ◌<◌, ◌≤◌, true, [], ◌∷◌, map, length};
+ghost use Rattle.std.specs.Prelude.{◌≡◌, ◌^◌, ◌<◌, ◌≤◌, true, map, length};
 ghost use Rattle.config.specs.Setup.{setup};
 ghost use Rattle.memory.specs.Memory.{lines_in, backlog_in, size_in, OnlyLines};
 ghost use Rattle.rules.specs.Calls.{doubt_at};
 ghost use Rattle.rules.specs.Entries.{merged};
 ghost use Rattle.rules.specs.Slots.{limit, played};
-ghost use Rattle.adapter.specs.Placing.{LinesInOrder, Whole, AllWhole, Goes, turns_of_lines, PlacedSo, begun};
+ghost use Rattle.adapter.specs.Placing.{LinesInOrder, AllWhole, Goes, turns_of_lines, PlacedSo, begun};
 ghost use Rattle.adapter.specs.Steps.{step_of};
 
 use crate::place::Course;
@@ -71,20 +71,7 @@ pub(crate) fn place<C: Carrier>(
     for slot in 0..frame.slots {
         let limit = limit_of(config, frame, slot);
         let admitted = admit_before(config, memory, limit, course);
-        let (packet, filled) = fill(config, memory, frame, slot, admitted);
-        hand(&packet, adding, carrier);
-        course = filled;
+        course = fill(config, memory, frame, slot, admitted, adding, carrier);
     }
     course
-}
-
-// A packet goes to a carrier that has a place for it, or nowhere.
-fn hand<C: Carrier>(packet: &[u8; 188], adding: bool, carrier: &mut C)
-    requires whole { Whole packet.now }
-    requires place_free { adding ≡ true → 0 < (C.meaning carrier.old).free }
-    ensures { Goes C.meaning adding (packet.now ∷ []) carrier.old carrier.new }
-{
-    if adding {
-        let _ = carrier.put(&packet[..]);
-    }
 }

@@ -4,9 +4,10 @@ ghost use Rattle.config.specs.Setup.{setup};
 ghost use Rattle.memory.specs.Memory.{lines_in, line_in, backlog_in, size_in, SameShares, OnlyBacklog};
 ghost use Rattle.rules.specs.Entries.{merged};
 ghost use Rattle.rules.specs.Slots.{use_of, leaves, choose, or_stuffing};
-ghost use Rattle.adapter.specs.Placing.{NextIn, LinesInOrder, AdmittedOne, Admitted, copy_of, Filled, Whole, AllWhole};
+ghost use Rattle.adapter.specs.Placing.{NextIn, LinesInOrder, AdmittedOne, Admitted, copy_of, Filled, Whole, AllWhole, Goes};
 
 use crate::place::Course;
+use carrier::Carrier;
 use config::table::Config;
 use memory::Memory;
 use psi::packet::stuffing;
@@ -89,45 +90,62 @@ fn copy_at(config: &Config, frame: &Frame, slot: u32) -> Option<u32>
     None
 }
 
-// The packet of a slot, when all was admitted: a PAT copy, the backlog's first, or stuffing.
+// The packet of a slot, when all was admitted: a PAT copy, the backlog's first, or stuffing. It goes to the carrier, or nowhere.
+// It is handed on from where it stands: returned, its 188 bytes would be copied for each slot, also of a frame that is not added.
 // That packets which wait are whole is asked at each step: a memory holds entries of any bytes, and only an adapter keeps to it.
-pub(crate) fn fill(
+pub(crate) fn fill<C: Carrier>(
     config: &Config,
     memory: &mut Memory<Entry>,
     frame: &Frame,
     slot: u32,
     course: Course,
-) -> ([u8; 188], Course)
-    requires { AllWhole (backlog_in memory.old) }
-    ensures packet { result.0 ≡ leaves (setup config.now) frame.now.number (use_of (setup config.now) frame.now slot) (backlog_in memory.old) }
-    ensures whole { Whole result.0 }
-    ensures filled { Filled (setup config.now) frame.now slot memory.old memory.new course result.1 }
+    adding: bool,
+    carrier: &mut C,
+) -> Course
+    requires all_whole { AllWhole (backlog_in memory.old) }
+    requires place_free { adding ≡ true → 0 < (C.meaning carrier.old).free }
+    ensures filled { Filled (setup config.now) frame.now slot memory.old memory.new course result }
+    ensures goes { Goes C.meaning adding (leaves (setup config.now) frame.now.number (use_of (setup config.now) frame.now slot) (backlog_in memory.old) ∷ []) carrier.old carrier.new }
 {
-    let (packet, doubt) = match copy_at(config, frame, slot) {
-        Some(i) => (pat_copy(config, frame.number, i), course.doubt),
-        None => (front_or_stuffing(memory), course.doubt.saturating_sub(1)),
+    let doubt = match copy_at(config, frame, slot) {
+        Some(i) => {
+            hand(&pat_copy(config, frame.number, i), adding, carrier);
+            course.doubt
+        }
+        None => {
+            hand_front(memory, adding, carrier);
+            course.doubt.saturating_sub(1)
+        }
     };
-    let course = Course {
+    Course {
         doubt,
         zero: course.zero || doubt == 0,
         ..course
-    };
-    (packet, course)
+    }
 }
 
-// The backlog's first packet, which goes, or stuffing where none waits.
-fn front_or_stuffing(memory: &mut Memory<Entry>) -> [u8; 188]
-    requires { AllWhole (backlog_in memory.old) }
-    ensures packet { result ≡ or_stuffing (choose (backlog_in memory.old)).0 }
-    ensures whole { Whole result }
+// The backlog's first packet goes to the carrier or nowhere, or stuffing where none waits.
+fn hand_front<C: Carrier>(memory: &mut Memory<Entry>, adding: bool, carrier: &mut C)
+    requires all_whole { AllWhole (backlog_in memory.old) }
+    requires place_free { adding ≡ true → 0 < (C.meaning carrier.old).free }
+    ensures goes { Goes C.meaning adding (or_stuffing (choose (backlog_in memory.old)).0 ∷ []) carrier.old carrier.new }
     ensures backlog { backlog_in memory.new ≡ (choose (backlog_in memory.old)).1 }
     ensures rest { OnlyBacklog memory.old memory.new }
 {
-    // The closure of a `map_or_else` would have to say again that what waits is whole.
-    let packet = match memory.front() {
-        Some(entry) => entry.bytes,
-        None => stuffing(),
-    };
+    match memory.front() {
+        Some(entry) => hand(&entry.bytes, adding, carrier),
+        None => hand(&stuffing(), adding, carrier),
+    }
     memory.let_front_go();
-    packet
+}
+
+// A packet goes to a carrier that has a place for it, or nowhere.
+fn hand<C: Carrier>(packet: &[u8], adding: bool, carrier: &mut C)
+    requires whole { Whole packet.now }
+    requires place_free { adding ≡ true → 0 < (C.meaning carrier.old).free }
+    ensures { Goes C.meaning adding (packet.now ∷ []) carrier.old carrier.new }
+{
+    if adding {
+        let _ = carrier.put(packet);
+    }
 }
