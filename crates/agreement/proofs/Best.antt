@@ -1,9 +1,10 @@
 -- The best of some numbers, as `min` and `max` pick one of two. Assumes nothing.
-use Rattle.std.proofs.Common.{◌≡◌, ℕ, zero, suc, ◌≤◌, ◌⊎◌, max, min, Bool, true, List, [], ◌∷◌, get_or, map, refl, sym, ◌∙◌, subst, inl, inr, ⊎_elim, arith}
+use Rattle.std.proofs.Common.{◌≡◌, ℕ, zero, suc, ◌≤◌, ◌⊎◌, max, min, Bool, true, false, cond, ◌&&◌, ltb, List, [], ◌∷◌, get_or, map, Some, None, Option, ap, refl, sym, ◌∙◌, subst, inl, inr, ⊎_elim, arith}
 use Rattle.std.specs.List.{fold, reduce, filter, Contains, All}
 use Rattle.std.specs.Option.{MatchOption}
-use Rattle.std.proofs.lemmas.Bool.{cond_both, cases_lt, both_ways}
+use Rattle.std.proofs.lemmas.Bool.{cond_both, cond-true, cond-false, cases_lt, both_ways, ltb-true, ltb-false}
 use Rattle.std.proofs.lemmas.List.Elements.{All-nil, All-cons, All-head, All-tail, All-map, All-contains, All-contains_itself, All-filter, filter_passes}
+use Rattle.agreement.specs.Agreement.{lower}
 
 -- m is one of the numbers, and in a relation to each of them
 record Best (R : ℕ → ℕ → Type 0) (ns : List ℕ) (m : ℕ) : Type 0 where
@@ -94,3 +95,50 @@ pub greatest_of : {X : Type 0} (key : X → ℕ) (p : X → Bool) (xs : List X)
 greatest_of =
     best_of max (λ m n. n ≤ m) (λ a. omega arith) (λ a b c l r. omega arith) (λ a b. omega arith) (λ a b. omega arith)
     (λ a b. ⊎_elim (λ less. inr (omega arith)) (λ more. inl (omega arith)) (cases_lt a b))
+
+-- A walk that takes each number that is lower than the lowest so far and passes two tests, one before and one after, ends at the least that passes both.
+module _ {X : Type 0} (key : X → ℕ) (p q : X → Bool) where
+  abbrev pub next : Option ℕ → X → Option ℕ
+  next lowest x = cond (p x && lower (key x) lowest && q x) (Some (key x)) lowest
+
+  abbrev with : Option ℕ → ℕ → Option ℕ
+  with None n = Some n
+  with (Some m) n = Some (min m n)
+
+  abbrev after : Option ℕ → List ℕ → Option ℕ
+  after None ns = reduce min ns
+  after (Some m) ns = Some (fold min m ns)
+
+  one_more : (lowest : Option ℕ) (n : ℕ) (ns : List ℕ) → after (with lowest n) ns ≡ after lowest (n ∷ ns)
+  one_more None n ns = refl
+  one_more (Some m) n ns = refl
+
+  parted : {A : Type 0} (a b c : Bool) (x y : A) → cond (a && b && c) x y ≡ cond (a && c) (cond b x y) y
+  parted true true c x y = refl
+  parted true false true x y = refl
+  parted true false false x y = refl
+  parted false b c x y = refl
+
+  lowered : (lowest : Option ℕ) (n : ℕ) → cond (lower n lowest) (Some n) lowest ≡ with lowest n
+  lowered None n = refl
+  lowered (Some m) n =
+      cond_both (ltb n m) (Some n) (Some m) (λ o. o ≡ Some (min m n))
+      (λ less. ap Some (let l = ltb-true n m less in omega arith))
+      (λ more. ap Some (let l = ltb-false n m more in omega arith))
+
+  step : (lowest : Option ℕ) (x : X) → next lowest x ≡ cond (p x && q x) (with lowest (key x)) lowest
+  step lowest x = parted (p x) (lower (key x) lowest) (q x) (Some (key x)) lowest ∙ ap (λ o. cond (p x && q x) o lowest) (lowered lowest (key x))
+
+  walk : (lowest : Option ℕ) (xs : List X) → fold next lowest xs ≡ after lowest (map key (filter (λ x. p x && q x) xs))
+  walk None [] = refl
+  walk (Some m) [] = refl
+  walk lowest (x ∷ xs) =
+      cond_both (p x && q x) (x ∷ filter (λ x. p x && q x) xs) (filter (λ x. p x && q x) xs) (λ ys. fold next (next lowest x) xs ≡ after lowest (map key ys))
+      (λ yes.
+      ap (λ o. fold next o xs) (step lowest x ∙ cond-true (p x && q x) (with lowest (key x)) lowest yes)
+      ∙ walk (with lowest (key x)) xs
+      ∙ one_more lowest (key x) (map key (filter (λ x. p x && q x) xs)))
+      (λ no. ap (λ o. fold next o xs) (step lowest x ∙ cond-false (p x && q x) (with lowest (key x)) lowest no) ∙ walk lowest xs)
+
+  pub least_by_walk : (xs : List X) → fold next None xs ≡ reduce min (map key (filter (λ x. p x && q x) xs))
+  least_by_walk = walk None

@@ -1,5 +1,5 @@
 -- Frames that two sites added: where two frames differ, which frames both added, and from which number on those are equal. Assumes nothing.
-use Rattle.std.specs.Prelude.{◌≡◌, ℕ, ◌+◌, ◌*◌, ◌<◌, ◌≤◌, Bool, ◌&&◌, not, List, take, drop, Some, None, vec_items, Contains, count_by, Option, ◌==◌, ◌≢◌}
+use Rattle.std.specs.Prelude.{◌≡◌, ℕ, ◌+◌, ◌*◌, ◌<◌, ◌≤◌, Bool, true, ◌&&◌, not, List, take, drop, Some, None, vec_items, Contains, count_by, Option, ◌==◌, ◌≢◌, nat_lt}
 use Rattle.std.specs.List.{list_any}
 use Rattle.std.specs.Str.{bytes_eq}
 use Rattle.agreement.specs.declared.Added.{Added}
@@ -47,6 +47,11 @@ DiffersAmong x ys = (y : Added) × Contains ys y × Differ x y
 
 abbrev pub AlikeAmong : Added → List Added → Type 0
 AlikeAmong x ys = (y : Added) → Contains ys y → Alike x y
+
+-- whether a number is lower than the lowest so far, if there is one
+abbrev pub lower : ℕ → Option ℕ → Bool
+lower n None = true
+lower n (Some m) = nat_lt n m
 
 module _ (first second : List Added) where
   -- Both added frame n.

@@ -1,9 +1,9 @@
 // The frames that two sites added, and from which of them on the two agree.
 #![tactic(auto)]
 
-ghost use Rattle.std.specs.Prelude.{◌≡◌, position, ◌==◌, not};
+ghost use Rattle.std.specs.Prelude.{◌≡◌, ◌&&◌, position, ◌==◌, not, nat_le};
 ghost use Rattle.std.specs.List.{list_any, zip};
-ghost use Rattle.agreement.specs.Agreement.{packets_in, PartsAt, FirstDifference, is_among, common_in, differ_in, EqualFrom, Agreed};
+ghost use Rattle.agreement.specs.Agreement.{packets_in, PartsAt, FirstDifference, is_among, common_in, differ_in, EqualFrom, Agreed, lower};
 
 // A packet has so many bytes. The number stands here once more, since this crate needs no other crate.
 const PACKET: usize = 188;
@@ -72,11 +72,25 @@ pub fn in_common(first: &[Added], second: &[Added]) -> usize
     first.iter().filter(|x| are_with(second, x.number)).count()
 }
 
+// Whether a number is no lower than `from`, lower than the lowest so far, and that of one of the frames. They are searched last, and only if the rest holds.
+fn is_next(number: u32, from: u64, lowest: Option<u32>, frames: &[Added]) -> bool
+    ensures { result ≡ (nat_le from number && lower number lowest && is_among frames.now number) }
+{
+    from <= u64::from(number)
+        && lowest.is_none_or(|lowest| number < lowest)
+        && are_with(frames, number)
+}
+
 // The lowest number of a frame that both added from which on all that both added is equal.
 pub fn agreed_from(first: &[Added], second: &[Added]) -> Option<u32>
     ensures { Agreed first.now second.now result }
 {
     let from = equal_from(first, second);
-    let equal = first.iter().filter(|x| from <= u64::from(x.number) && are_with(second, x.number));
-    equal.map(|x| x.number).min()
+    first.iter().fold(None, |lowest, x| {
+        if is_next(x.number, from, lowest, second) {
+            Some(x.number)
+        } else {
+            lowest
+        }
+    })
 }
