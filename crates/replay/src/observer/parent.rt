@@ -41,15 +41,17 @@ impl Parent {
 
     // Lets go of what arrives before a moment, and says how much that is.
     pub(crate) fn let_go_before(&mut self, limit: u64) -> u32 {
+        // For most slots nothing goes, and a drain of nothing has its cost.
+        let begins = self.held.front().is_some_and(|arrival| *arrival < limit);
+        if !begins {
+            return 0;
+        }
         let gone = self
             .held
             .iter()
             .take_while(|arrival| **arrival < limit)
             .count();
-        // For most slots nothing goes, and a drain of nothing has its cost.
-        if gone > 0 {
-            self.held.drain(..gone);
-        }
+        self.held.drain(..gone);
         u32::try_from(gone).unwrap_or(u32::MAX)
     }
 }
